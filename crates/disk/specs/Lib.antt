@@ -1,0 +1,5 @@
+pub mod Device
+pub mod Layout
+pub mod Sizes
+pub mod Gate
+pub mod Runs

@@ -1,0 +1,10 @@
+mod Stored
+mod Records
+mod Protocol
+mod Seek
+mod Writing
+mod Turns
+mod Loading
+mod Restoring
+mod Stages
+mod Commits

@@ -1,0 +1,4 @@
+pub mod Record
+pub mod Layout
+pub mod Groups
+pub mod Meaning
