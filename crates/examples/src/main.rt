@@ -9,7 +9,7 @@ use number::write_number;
 use std::fmt;
 use std::io;
 
-// Six that are often shown for this form, and then the edges of each length.
+// The six that the DWARF standard gives for this form, and then the edges of each length.
 const NUMBERS: [(u32, &[u8]); 14] = [
     (2, &[0x02]),
     (127, &[0x7f]),

@@ -23,13 +23,13 @@ use Rattle.store.specs.Meaning as call
 use Rattle.journal.specs.declared.state.Mode.{Mode}
 use Rattle.journal.specs.declared.state.Mode.the-variants.{Due, Idle, Open}
 use Rattle.journal.specs.Record.{Different, Below, record-of, blank}
-use Rattle.journal.specs.Layout.{names, framed, cells-of, naming, durable, frame-writes, page-writes, settle-writes, commit-writes, recover-writes}
-use Rattle.journal.specs.Meaning.{content, shape-of, finding-of, Grouped, Settled, Opened, Whole, recover-answer, By-charge, Lawfully, committed, recovered}
+use Rattle.journal.specs.Layout.{names, framed, cells-of, naming, durable, frame-writes, page-writes, copy-writes, commit-writes, recover-writes}
+use Rattle.journal.specs.Meaning.{content, shape-of, finding-of, Grouped, Record-blank, Opened, Whole, recover-answer, By-charge, Lawfully, committed, recovered}
 use Rattle.journal.proofs.Stored.{length-stored}
 use Rattle.journal.proofs.Stages.{Stands}
 use Rattle.store.specs.declared.Needs.the-variants as needs
 use Rattle.journal.proofs.Records.{different-below, named-are}
-use Rattle.journal.proofs.Protocol.{Kept, settled-all, settled-part, commit-old, commit-new, commit-all, length-frames, length-pages, length-framed, names-framed}
+use Rattle.journal.proofs.Protocol.{Kept, copied-all, copied-part, commit-old, commit-new, commit-all, length-frames, length-pages, length-framed, names-framed}
 
 -- the blocks written are there
 inside-++ : (n : ℕ) (xs ys : List Write) → Inside n xs → Inside n ys → Inside n (xs ++ ys)
@@ -44,8 +44,8 @@ inside-pages : (n : ℕ) (ws : List Write) → Below (n - 7) (names ws) → Insi
 inside-pages n [] b = tt
 inside-pages n (w ∷ ws) b = (omega (arith, b .0), inside-pages n ws (b .1))
 
-inside-settle : (n : ℕ) (ws : List Write) → 8 ≤ n → Below (n - 7) (names ws) → Inside n (settle-writes ws)
-inside-settle n ws h b = inside-++ n (page-writes ws) ((0, blank) ∷ []) (inside-pages n ws b) (omega arith, tt)
+inside-copy : (n : ℕ) (ws : List Write) → 8 ≤ n → Below (n - 7) (names ws) → Inside n (copy-writes ws)
+inside-copy n ws h b = inside-++ n (page-writes ws) ((0, blank) ∷ []) (inside-pages n ws b) (omega arith, tt)
 
 -- a dark journal with that durable content
 dark-content : (b c : List (List ℕ)) (mode : Mode) (ws : List Write) (p : ℕ) (cells : List (List ℕ)) (ps : List ℕ) → length c ≡ length b → durable c ≡ cells → naming c ≡ Some ps
@@ -104,9 +104,9 @@ module _ (d : Device) (w : Write) (ws : List Write) (p : ℕ) (f : Formed d) (on
 
   commit-inside : Inside (length (d .blocks)) (commit-writes (w ∷ ws))
   commit-inside =
-      inside-++ (length (d .blocks)) (frame-writes 0 (w ∷ ws)) ((0, record-of (names (w ∷ ws))) ∷ settle-writes (w ∷ ws))
+      inside-++ (length (d .blocks)) (frame-writes 0 (w ∷ ws)) ((0, record-of (names (w ∷ ws))) ∷ copy-writes (w ∷ ws))
       (inside-frames (length (d .blocks)) 0 (w ∷ ws) (omega (arith, f .least, g .few, g .most)))
-      (omega (arith, f .least), inside-settle (length (d .blocks)) (w ∷ ws) (f .least) (different-below (cells-of (d .blocks)) (names (w ∷ ws)) (g .different)))
+      (omega (arith, f .least), inside-copy (length (d .blocks)) (w ∷ ws) (f .least) (different-below (cells-of (d .blocks)) (names (w ∷ ws)) (g .different)))
 
   free : bar call.commit (content true (d .blocks) Open (w ∷ ws) p) ≡ None
   unfolding bar
@@ -126,7 +126,7 @@ module _ (d : Device) (w : Write) (ws : List Write) (p : ℕ) (f : Formed d) (on
       let l = length-stored (commit-writes (w ∷ ws)) (d .blocks) in
       record {
         outcome = record { free = free; leaves = idle-content (d .blocks) c (w ∷ ws) p (stored (w ∷ ws) (durable (d .blocks))) l (now .1) };
-        stays = record { settled = now .0; opened = tt };
+        stays = record { record-blank = now .0; opened = tt };
       }
 
   short : Ends call.commit (content true (d .blocks) Open (w ∷ ws) p) Open Idle (w ∷ ws) p (cut-short (commit-writes (w ∷ ws)) d) (Err darkened)
@@ -134,7 +134,7 @@ module _ (d : Device) (w : Write) (ws : List Write) (p : ℕ) (f : Formed d) (on
   short =
       let c = stored (take (d .charge) (commit-writes (w ∷ ws))) (d .blocks) in
       let l : length c ≡ length (d .blocks) = length-stored (take (d .charge) (commit-writes (w ∷ ws))) (d .blocks) in
-      let stays : Whole false c Open (w ∷ ws) p = record { settled = tt; opened = grouped-on (d .blocks) c (w ∷ ws) p l g } in
+      let stays : Whole false c Open (w ∷ ws) p = record { record-blank = tt; opened = grouped-on (d .blocks) c (w ∷ ws) p l g } in
       ⊎-elim
       (λ new.
       let k = commit-new (d .blocks) (w ∷ ws) e long (f .most) few (g .different) (d .charge) new in
@@ -151,7 +151,7 @@ pub commit-ends : (d : Device) (ws : List Write) (p : ℕ) (after : Device) (r :
 unfolding bar next
 commit-ends d [] p after r f on e g a q =
     ends-with call.commit (content true (d .blocks) Open [] p) Open Idle [] p d [] after r (all-done [] d) (Ok tt) (a ∙ one) (q ∙ ran-none d .1)
-    (record { outcome = record { free = refl; leaves = refl }; stays = record { settled = e; opened = tt } })
+    (record { outcome = record { free = refl; leaves = refl }; stays = record { record-blank = e; opened = tt } })
   where
     z : d .charge - 0 ≡ d .charge
     z = omega arith
@@ -162,8 +162,8 @@ commit-ends d (w ∷ ws) p after r f on e g a q = commit-some d w ws p f on e g 
 
 -- a recovery that copies frames
 module _ (d : Device) (n : ℕ) (ns : List ℕ) (ws : List Write) (p : ℕ) (f : Formed d) (on : d .powered ≡ true) (e : naming (d .blocks) ≡ Some (n ∷ ns)) where
-  restore-inside : Inside (length (d .blocks)) (settle-writes (framed 0 (n ∷ ns) (d .blocks)))
-  restore-inside = inside-settle (length (d .blocks)) (framed 0 (n ∷ ns) (d .blocks)) (f .least) (subst (Below (cells-of (d .blocks))) (sym (names-framed 0 (n ∷ ns) (d .blocks))) (named-are (cells-of (d .blocks)) (getD (d .blocks) 0 []) (n ∷ ns) e .1))
+  restore-inside : Inside (length (d .blocks)) (copy-writes (framed 0 (n ∷ ns) (d .blocks)))
+  restore-inside = inside-copy (length (d .blocks)) (framed 0 (n ∷ ns) (d .blocks)) (f .least) (subst (Below (cells-of (d .blocks))) (sym (names-framed 0 (n ∷ ns) (d .blocks))) (named-are (cells-of (d .blocks)) (getD (d .blocks) 0 []) (n ∷ ns) e .1))
 
   due-free : bar call.recover (content true (d .blocks) Due ws p) ≡ None
   unfolding bar
@@ -172,38 +172,38 @@ module _ (d : Device) (n : ℕ) (ns : List ℕ) (ws : List Write) (p : ℕ) (f :
   restore-long : 7 ≤ length (d .blocks)
   restore-long = omega (arith, f .least)
 
-  restore-full : Ends call.recover (content true (d .blocks) Due ws p) Due Idle ws p (all-done (settle-writes (framed 0 (n ∷ ns) (d .blocks))) d) (Ok tt)
+  restore-full : Ends call.recover (content true (d .blocks) Due ws p) Due Idle ws p (all-done (copy-writes (framed 0 (n ∷ ns) (d .blocks))) d) (Ok tt)
   unfolding next
   restore-full =
-      let now = settled-all (d .blocks) (n ∷ ns) e restore-long (f .most) in
-      let run = settle-writes (framed 0 (n ∷ ns) (d .blocks)) in
+      let now = copied-all (d .blocks) (n ∷ ns) e restore-long (f .most) in
+      let run = copy-writes (framed 0 (n ∷ ns) (d .blocks)) in
       record {
         outcome = record { free = due-free; leaves = idle-content (d .blocks) (stored run (d .blocks)) ws p (durable (d .blocks)) (length-stored run (d .blocks)) (now .1) };
-        stays = record { settled = now .0; opened = tt };
+        stays = record { record-blank = now .0; opened = tt };
       }
 
-  restore-short : Ends call.recover (content true (d .blocks) Due ws p) Due Idle ws p (cut-short (settle-writes (framed 0 (n ∷ ns) (d .blocks))) d) (Err darkened)
+  restore-short : Ends call.recover (content true (d .blocks) Due ws p) Due Idle ws p (cut-short (copy-writes (framed 0 (n ∷ ns) (d .blocks))) d) (Err darkened)
   unfolding next
   restore-short =
-      let run = settle-writes (framed 0 (n ∷ ns) (d .blocks)) in
+      let run = copy-writes (framed 0 (n ∷ ns) (d .blocks)) in
       let c = stored (take (d .charge) run) (d .blocks) in
-      let k = settled-part (d .blocks) (n ∷ ns) e restore-long (f .most) (d .charge) in
+      let k = copied-part (d .blocks) (n ∷ ns) e restore-long (f .most) (d .charge) in
       let same = dark-content (d .blocks) c Due ws p (durable (d .blocks)) (k .named-now) (length-stored (take (d .charge) run) (d .blocks)) (k .same) (k .reads) in
       let before : record { shape = shape-of (d .blocks); durable = durable (d .blocks); stage = call.dark call.sound } ≡ dimmed (content true (d .blocks) Due ws p) = ap (λ (o : Option (List ℕ)). record { shape = shape-of (d .blocks); durable = durable (d .blocks); stage = call.dark (finding-of o) }) (sym e) in
-      record { outcome = cut refl (undone tt due-free (same ∙ before)); stays = record { settled = tt; opened = tt } }
+      record { outcome = cut refl (undone tt due-free (same ∙ before)); stays = record { record-blank = tt; opened = tt } }
 
-  restore-some : (after : Device) (r : Result Unit Refusal) → after ≡ ran (settle-writes (framed 0 (n ∷ ns) (d .blocks))) d → r ≡ ran-answer (settle-writes (framed 0 (n ∷ ns) (d .blocks))) d → Ends call.recover (content true (d .blocks) Due ws p) Due Idle ws p after r
-  restore-some after r a q = ends-by call.recover (content true (d .blocks) Due ws p) Due Idle ws p d (settle-writes (framed 0 (n ∷ ns) (d .blocks))) after r (lasts (settle-writes (framed 0 (n ∷ ns) (d .blocks))) d on restore-inside) a q (λ h. restore-full) (λ h. restore-short)
+  restore-some : (after : Device) (r : Result Unit Refusal) → after ≡ ran (copy-writes (framed 0 (n ∷ ns) (d .blocks))) d → r ≡ ran-answer (copy-writes (framed 0 (n ∷ ns) (d .blocks))) d → Ends call.recover (content true (d .blocks) Due ws p) Due Idle ws p after r
+  restore-some after r a q = ends-by call.recover (content true (d .blocks) Due ws p) Due Idle ws p d (copy-writes (framed 0 (n ∷ ns) (d .blocks))) after r (lasts (copy-writes (framed 0 (n ∷ ns) (d .blocks))) d on restore-inside) a q (λ h. restore-full) (λ h. restore-short)
 
 -- a recovery, by what the record says
 pub restore-ends : (d : Device) (ws : List Write) (p : ℕ) (after : Device) (r : Result Unit Refusal) (o : Option (List ℕ)) → Formed d → d .powered ≡ true → naming (d .blocks) ≡ o → after ≡ ran (recover-writes o (d .blocks)) d → r ≡ recover-answer o d → Ends call.recover (content true (d .blocks) Due ws p) Due Idle ws p after r
 unfolding bar next
 restore-ends d ws p after r None f on e a q =
     ends-with call.recover (content true (d .blocks) Due ws p) Due Idle ws p d [] after r (record { blocks = d .blocks; charge = d .charge; powered = true }) (Err (refusal reason.Damaged 1 0)) (a ∙ ran-none d .0 ∙ ap (λ (x : Bool). record { blocks = d .blocks; charge = d .charge; powered = x }) on) q
-    (record { outcome = barred (ap (λ (o : Option (List ℕ)). call.found (finding-of o)) e) refl; stays = record { settled = tt; opened = tt } })
+    (record { outcome = barred (ap (λ (o : Option (List ℕ)). call.found (finding-of o)) e) refl; stays = record { record-blank = tt; opened = tt } })
 restore-ends d ws p after r (Some []) f on e a q =
     ends-with call.recover (content true (d .blocks) Due ws p) Due Idle ws p d [] after r (record { blocks = d .blocks; charge = d .charge; powered = true }) (Ok tt) (a ∙ ran-none d .0 ∙ ap (λ (x : Bool). record { blocks = d .blocks; charge = d .charge; powered = x }) on) (q ∙ ran-none d .1)
-    (record { outcome = record { free = ap (λ (o : Option (List ℕ)). call.found (finding-of o)) e; leaves = refl }; stays = record { settled = e; opened = tt } })
+    (record { outcome = record { free = ap (λ (o : Option (List ℕ)). call.found (finding-of o)) e; leaves = refl }; stays = record { record-blank = e; opened = tt } })
 restore-ends d ws p after r (Some (n ∷ ns)) f on e a q = restore-some d n ns ws p f on e after r a q
 
 -- the law of a commit by the charge it finds
@@ -211,7 +211,7 @@ length-commit : (w : Write) (ws : List Write) → length (commit-writes (w ∷ w
 length-commit w ws =
     let f = length-frames 0 (w ∷ ws) in
     let p = length-pages (w ∷ ws) in
-    let a = length-append (frame-writes 0 (w ∷ ws)) ((0, record-of (names (w ∷ ws))) ∷ settle-writes (w ∷ ws)) in
+    let a = length-append (frame-writes 0 (w ∷ ws)) ((0, record-of (names (w ∷ ws))) ∷ copy-writes (w ∷ ws)) in
     let s = length-append (page-writes (w ∷ ws)) ((0, blank) ∷ []) in
     omega (arith, f, p, a, s)
 
@@ -257,7 +257,7 @@ restore-any d ws now p after r f q a b = restore-ends d now p after r (naming (d
 -- the calls themselves, in whatever state the journal stands
 pub commit-call : (d : Device) (on : Bool) (mode : Mode) (ws : List Write) (p : ℕ) (after : Device) (r : Result Unit Refusal) → d .powered ≡ on → Formed d → Stands on mode Open → Whole on (d .blocks) mode ws p → after ≡ ran (commit-writes ws) d → r ≡ ran-answer (commit-writes ws) d
     → Ends call.commit (content on (d .blocks) mode ws p) mode Idle ws p after r × Lawfully on mode ws d r after
-commit-call d true Open ws p after r q f s w a b = (commit-ends d ws p after r f q (w .settled) (w .opened) a b, commit-by-charge d ws p after r f q (w .settled) (w .opened) a b)
+commit-call d true Open ws p after r q f s w a b = (commit-ends d ws p after r f q (w .record-blank) (w .opened) a b, commit-by-charge d ws p after r f q (w .record-blank) (w .opened) a b)
 commit-call d true Due ws p after r q f s w a b = absurd (let k = s .at in let z : _≡_ {A = ℕ} 0 1 = cc in omega arith)
 commit-call d true Idle ws p after r q f s w a b = absurd (let k = s .at in let z : _≡_ {A = ℕ} 0 1 = cc in omega arith)
 commit-call d false mode ws p after r q f s w a b = absurd (let k = s .lit in let z : _≡_ {A = ℕ} 0 1 = cc in omega arith)

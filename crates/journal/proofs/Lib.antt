@@ -8,3 +8,4 @@ mod Loading
 mod Restoring
 mod Stages
 mod Commits
+mod Exactness

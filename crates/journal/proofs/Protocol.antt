@@ -12,7 +12,7 @@ use Rattle.std.specs.declared.option.Option.{Option}
 use Rattle.std.specs.declared.option.Option.the-variants.{Some, None}
 use Rattle.disk.specs.Runs.{Write, stored, Inside}
 use Rattle.journal.specs.Record.{record-of, blank, named, Different, Below}
-use Rattle.journal.specs.Layout.{names, framed, overlaid, cells-of, naming, durable, frame-writes, page-writes, settle-writes, commit-writes}
+use Rattle.journal.specs.Layout.{names, framed, overlaid, cells-of, naming, durable, frame-writes, page-writes, copy-writes, commit-writes}
 use Rattle.journal.proofs.Stored.{stored-++, length-stored, Avoids, stored-other, stored-low, absorbed, covered-take, pages-stored, pages-avoid, take-pages, frames-low, frames-avoid, framed-same, framed-written}
 use Rattle.journal.proofs.Records.{named-back, named-are}
 
@@ -99,19 +99,19 @@ module _ (b : List (List ℕ)) (ps : List ℕ) (e : naming b ≡ Some ps) (long 
       ∙ pages-stored ws b
       ∙ sym (durable-at b ps e)
 
-  pub settled-all : (naming (stored (settle-writes (framed 0 ps b)) b) ≡ Some []) × (durable (stored (settle-writes (framed 0 ps b)) b) ≡ durable b)
+  pub copied-all : (naming (stored (copy-writes (framed 0 ps b)) b) ≡ Some []) × (durable (stored (copy-writes (framed 0 ps b)) b) ≡ durable b)
   unfolding emptied ws
-  settled-all =
+  copied-all =
       let whole = stored-++ (page-writes ws) ((0, blank) ∷ []) b in
       (ap naming whole ∙ emptied-named, ap durable whole ∙ emptied-same)
 
-  pub settled-part : (n : ℕ) → Kept (durable b) (stored (take n (settle-writes (framed 0 ps b))) b)
+  pub copied-part : (n : ℕ) → Kept (durable b) (stored (take n (copy-writes (framed 0 ps b))) b)
   unfolding partly ws
-  settled-part n =
+  copied-part n =
       ⊎-elim
-      (λ all. let done = settled-all in rw (take-all n (settle-writes ws) all) (record { same = done .1; named-now = []; reads = done .0 }))
+      (λ all. let done = copied-all in rw (take-all n (copy-writes ws) all) (record { same = done .1; named-now = []; reads = done .0 }))
       (λ part. rw (take-append-le n (page-writes ws) ((0, blank) ∷ []) (omega (arith, length-append (page-writes ws) ((0, blank) ∷ [])))) (partly-kept n))
-      (swapped (cases-lt n (length (settle-writes ws))))
+      (swapped (cases-lt n (length (copy-writes ws))))
     where
       swapped : {A B : Type 0} → A ⊎ B → B ⊎ A
       swapped (inl x) = inr x
@@ -167,34 +167,34 @@ module _ (b : List (List ℕ)) (ws : List Write) (e : naming b ≡ Some []) (lon
       ∙ ap (λ l. stored l (drop 7 sealed)) sealed-framed
       ∙ ap (stored ws) (drop-set-lt 7 (stored (frame-writes 0 ws) b) 0 (record-of (names ws)) (omega arith) ∙ stored-low 7 (frame-writes 0 ws) b (frames-low 0 ws (omega arith)) ∙ sym start)
 
-  sealed-part : (n : ℕ) → Kept (stored ws (durable b)) (stored (take n (settle-writes ws)) sealed)
+  sealed-part : (n : ℕ) → Kept (stored ws (durable b)) (stored (take n (copy-writes ws)) sealed)
   sealed-part n =
-      let k = settled-part sealed (names ws) sealed-named (omega (arith, sealed-length)) (omega (arith, sealed-length)) n in
-      let k′ : Kept (durable sealed) (stored (take n (settle-writes ws)) sealed) = subst (λ l. Kept (durable sealed) (stored (take n (settle-writes l)) sealed)) sealed-framed k in
+      let k = copied-part sealed (names ws) sealed-named (omega (arith, sealed-length)) (omega (arith, sealed-length)) n in
+      let k′ : Kept (durable sealed) (stored (take n (copy-writes ws)) sealed) = subst (λ l. Kept (durable sealed) (stored (take n (copy-writes l)) sealed)) sealed-framed k in
       record { same = k′ .same ∙ sealed-new; named-now = k′ .named-now; reads = k′ .reads }
 
-  sealed-all : (naming (stored (settle-writes ws) sealed) ≡ Some []) × (durable (stored (settle-writes ws) sealed) ≡ stored ws (durable b))
+  sealed-all : (naming (stored (copy-writes ws) sealed) ≡ Some []) × (durable (stored (copy-writes ws) sealed) ≡ stored ws (durable b))
   sealed-all =
-      let k = settled-all sealed (names ws) sealed-named (omega (arith, sealed-length)) (omega (arith, sealed-length)) in
-      let k′ = subst (λ l. (naming (stored (settle-writes l) sealed) ≡ Some []) × (durable (stored (settle-writes l) sealed) ≡ durable sealed)) sealed-framed k in
+      let k = copied-all sealed (names ws) sealed-named (omega (arith, sealed-length)) (omega (arith, sealed-length)) in
+      let k′ = subst (λ l. (naming (stored (copy-writes l) sealed) ≡ Some []) × (durable (stored (copy-writes l) sealed) ≡ durable sealed)) sealed-framed k in
       (k′ .0, k′ .1 ∙ sealed-new)
 
-  pub commit-old : (n : ℕ) → n ≤ length ws → (naming (stored (take n (frame-writes 0 ws ++ (0, record-of (names ws)) ∷ settle-writes ws)) b) ≡ Some []) × (durable (stored (take n (frame-writes 0 ws ++ (0, record-of (names ws)) ∷ settle-writes ws)) b) ≡ durable b)
-  commit-old n h = rw (take-append-le n (frame-writes 0 ws) ((0, record-of (names ws)) ∷ settle-writes ws) (omega (arith, length-frames 0 ws))) (frames-part n)
+  pub commit-old : (n : ℕ) → n ≤ length ws → (naming (stored (take n (frame-writes 0 ws ++ (0, record-of (names ws)) ∷ copy-writes ws)) b) ≡ Some []) × (durable (stored (take n (frame-writes 0 ws ++ (0, record-of (names ws)) ∷ copy-writes ws)) b) ≡ durable b)
+  commit-old n h = rw (take-append-le n (frame-writes 0 ws) ((0, record-of (names ws)) ∷ copy-writes ws) (omega (arith, length-frames 0 ws))) (frames-part n)
 
-  pub commit-new : (n : ℕ) → length ws < n → Kept (stored ws (durable b)) (stored (take n (frame-writes 0 ws ++ (0, record-of (names ws)) ∷ settle-writes ws)) b)
+  pub commit-new : (n : ℕ) → length ws < n → Kept (stored ws (durable b)) (stored (take n (frame-writes 0 ws ++ (0, record-of (names ws)) ∷ copy-writes ws)) b)
   unfolding sealed
   commit-new n h =
       let m = n - length ws - 1 in
       let f = frame-writes 0 ws in
-      let rest = (0, record-of (names ws)) ∷ settle-writes ws in
+      let rest = (0, record-of (names ws)) ∷ copy-writes ws in
       let is : n ≡ length f + suc m = omega (arith, length-frames 0 ws) in
-      let cut : take n (f ++ rest) ≡ f ++ (0, record-of (names ws)) ∷ take m (settle-writes ws) = ap (λ k. take k (f ++ rest)) is ∙ take-append-add f rest (suc m) in
-      let all : stored (take n (f ++ rest)) b ≡ stored (take m (settle-writes ws)) sealed = ap (λ l. stored l b) cut ∙ stored-++ f ((0, record-of (names ws)) ∷ take m (settle-writes ws)) b in
+      let cut : take n (f ++ rest) ≡ f ++ (0, record-of (names ws)) ∷ take m (copy-writes ws) = ap (λ k. take k (f ++ rest)) is ∙ take-append-add f rest (suc m) in
+      let all : stored (take n (f ++ rest)) b ≡ stored (take m (copy-writes ws)) sealed = ap (λ l. stored l b) cut ∙ stored-++ f ((0, record-of (names ws)) ∷ take m (copy-writes ws)) b in
       rw all (sealed-part m)
 
-  pub commit-all : (naming (stored (frame-writes 0 ws ++ (0, record-of (names ws)) ∷ settle-writes ws) b) ≡ Some []) × (durable (stored (frame-writes 0 ws ++ (0, record-of (names ws)) ∷ settle-writes ws) b) ≡ stored ws (durable b))
+  pub commit-all : (naming (stored (frame-writes 0 ws ++ (0, record-of (names ws)) ∷ copy-writes ws) b) ≡ Some []) × (durable (stored (frame-writes 0 ws ++ (0, record-of (names ws)) ∷ copy-writes ws) b) ≡ stored ws (durable b))
   unfolding sealed
   commit-all =
-      let all = stored-++ (frame-writes 0 ws) ((0, record-of (names ws)) ∷ settle-writes ws) b in
+      let all = stored-++ (frame-writes 0 ws) ((0, record-of (names ws)) ∷ copy-writes ws) b in
       (ap naming all ∙ sealed-all .0, ap durable all ∙ sealed-all .1)

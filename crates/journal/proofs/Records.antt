@@ -18,7 +18,7 @@ use Rattle.journal.specs.Groups.{told}
 use Rattle.journal.proofs.Stored.{member-here}
 
 -- membership
-member-tail : (n x : ℕ) (ns : List ℕ) → member n (x ∷ ns) ≡ false → (x ≡ n → ⊥) × (member n ns ≡ false)
+pub member-tail : (n x : ℕ) (ns : List ℕ) → member n (x ∷ ns) ≡ false → (x ≡ n → ⊥) × (member n ns ≡ false)
 member-tail n x ns m =
     ⊎-elim
     (λ e. absurd (true≢false (sym (cond-true (eqb x n) true (member n ns) (eq-eqb x n e)) ∙ m)))
@@ -28,7 +28,7 @@ member-tail n x ns m =
 member-not : (n x : ℕ) (ns : List ℕ) → (x ≡ n → ⊥) → member n ns ≡ false → member n (x ∷ ns) ≡ false
 member-not n x ns o m = cond-false (eqb x n) true (member n ns) (ne-eqb x n o) ∙ m
 
-member-last : (n p : ℕ) (ns : List ℕ) → member n (ns ++ p ∷ []) ≡ true → (member n ns ≡ true) ⊎ (p ≡ n)
+pub member-last : (n p : ℕ) (ns : List ℕ) → member n (ns ++ p ∷ []) ≡ true → (member n ns ≡ true) ⊎ (p ≡ n)
 member-last n p [] m = ⊎-elim (λ e. inr e) (λ e. absurd (true≢false (sym m ∙ cond-false (eqb p n) true false (ne-eqb p n e)))) (cases-eq p n)
 member-last n p (x ∷ ns) m =
     ⊎-elim

@@ -1,9 +1,9 @@
 -- What the record read says of the recovery to make. Assumes nothing.
-use Prim.Native.Nat.{ℕ}
+use Prim.Native.Nat.{ℕ, _+_}
 use mathlib.Core.Path.{_≡_, refl, sym, _∙_, ap}
 use mathlib.Core.List.{List, [], _∷_}
-use lib.ListN.{length}
-use native.Mathlib.Omega.{arith}
+use lib.ListN.{getD}
+use Rattle.journal.proofs.Turns.{last-parts}
 use Rattle.std.specs.declared.option.Option.{Option}
 use Rattle.std.specs.declared.option.Option.the-variants.{Some, None}
 use Rattle.std.specs.declared.result.Result.{Result}
@@ -14,7 +14,7 @@ use Rattle.refusal.specs.Refusals.{refusal}
 use Rattle.disk.specs.Device.{Device}
 use Rattle.disk.specs.Runs.{Write, ran, ran-answer}
 use Rattle.disk.proofs.Runs.{Ran, ran-none}
-use Rattle.journal.specs.Layout.{framed, recover-writes, settle-writes}
+use Rattle.journal.specs.Layout.{framed, recover-writes, writes-from}
 use Rattle.journal.specs.Meaning.{recover-answer}
 
 -- a recovery as it was made
@@ -26,12 +26,12 @@ pub restored-damaged : (o : Option (List ℕ)) (d : Device) → None ≡ o → R
 restored-damaged o d e =
     record { after = sym (ran-none d .0) ∙ ap (λ x. ran (recover-writes x (d .blocks)) d) e; answer = ap (λ x. recover-answer x d) e }
 
-pub restored-none : (o : Option (List ℕ)) (ps : List ℕ) (d : Device) → Some ps ≡ o → length ps ≡ 0 → Restored o d d (Ok tt)
-restored-none o [] d e h =
-    record { after = sym (ran-none d .0) ∙ ap (λ x. ran (recover-writes x (d .blocks)) d) e; answer = sym (ran-none d .1) ∙ ap (λ x. recover-answer x d) e }
-restored-none o (p ∷ ps) d e h = absurd (omega arith)
-
-pub restored-some : (o : Option (List ℕ)) (ps : List ℕ) (d after : Device) (r : Result Unit Refusal) → Some ps ≡ o → (length ps ≡ 0 → ⊥) → Ran (settle-writes (framed 0 ps (d .blocks))) d after r → Restored o d after r
-restored-some o [] d after r e h k = absurd (h refl)
-restored-some o (p ∷ ps) d after r e h k =
+pub restored : (o : Option (List ℕ)) (ps : List ℕ) (d after : Device) (r : Result Unit Refusal) → Some ps ≡ o → Ran (writes-from 2 (framed 0 ps (d .blocks))) d after r → Restored o d after r
+restored o [] d after r e k =
     record { after = k .after ∙ ap (λ x. ran (recover-writes x (d .blocks)) d) e; answer = k .answer ∙ ap (λ x. recover-answer x d) e }
+restored o (p ∷ ps) d after r e k =
+    let same = last-parts (p, getD (d .blocks) (1 + 0) []) (framed (0 + 1) ps (d .blocks)) in
+    record {
+      after = k .after ∙ ap (λ x. ran x d) same ∙ ap (λ x. ran (recover-writes x (d .blocks)) d) e;
+      answer = k .answer ∙ ap (λ x. ran-answer x d) same ∙ ap (λ x. recover-answer x d) e;
+    }

@@ -30,7 +30,7 @@ use Rattle.journal.specs.declared.state.Mode.the-variants.{Due, Idle, Open}
 use Rattle.journal.specs.Record.{member, named, Different}
 use Rattle.journal.specs.Layout.{names, cells-of, naming, durable, framed, overlaid}
 use Rattle.journal.specs.Groups.{looked-up, remembered}
-use Rattle.journal.specs.Meaning.{content, finding-of, staged, Sized, Grouped, Settled, Opened, Whole, pended}
+use Rattle.journal.specs.Meaning.{content, finding-of, staged, Sized, Grouped, Record-blank, Opened, Whole, pended}
 use Rattle.journal.proofs.Stored.{length-stored}
 use Rattle.journal.proofs.Records.{different-more, named-are}
 use Rattle.journal.proofs.Protocol.{durable-at}
@@ -117,9 +117,9 @@ begun on b mode ws none p s e =
 
 pub begun-whole : (on : Bool) (b : List (List ℕ)) (mode : Mode) (ws none : List Write) (p : ℕ) → Stands on mode Idle → none ≡ [] → Whole on b mode ws p → Whole on b Open none 0
 begun-whole on b mode ws none p s e w =
-    record { settled = go on mode (s .lit) (s .at) (w .settled); opened = subst (λ (x : List Write). Grouped b x 0) (sym e) (record { different = tt; sized = tt; few = omega arith; most = omega arith }) }
+    record { record-blank = go on mode (s .lit) (s .at) (w .record-blank); opened = subst (λ (x : List Write). Grouped b x 0) (sym e) (record { different = tt; sized = tt; few = omega arith; most = omega arith }) }
   where
-    go : (on : Bool) (mode : Mode) → on ≡ true → mode ≡ Idle → Settled on b mode → Settled on b Open
+    go : (on : Bool) (mode : Mode) → on ≡ true → mode ≡ Idle → Record-blank on b mode → Record-blank on b Open
     go true Idle p q t = t
     go true Due p q t = absurd (let z : _≡_ {A = ℕ} 0 1 = cc in omega arith)
     go true Open p q t = t
@@ -133,16 +133,16 @@ aborted on b mode ws p s =
     (subst (λ (x : Mode). Granted call.abort (content true b x ws p) (content true b Idle ws p)) (sym (s .at)) (record { free = refl; leaves = refl }))
 
 pub aborted-whole : (on : Bool) (b : List (List ℕ)) (mode : Mode) (ws : List Write) (p : ℕ) → Stands on mode Open → Whole on b mode ws p → Whole on b Idle ws p
-aborted-whole on b mode ws p s w = record { settled = go on mode (s .at) (w .settled); opened = tt }
+aborted-whole on b mode ws p s w = record { record-blank = go on mode (s .at) (w .record-blank); opened = tt }
   where
-    go : (on : Bool) (mode : Mode) → mode ≡ Open → Settled on b mode → Settled on b Idle
+    go : (on : Bool) (mode : Mode) → mode ≡ Open → Record-blank on b mode → Record-blank on b Idle
     go true Idle q t = t
     go true Due q t = absurd (let z : _≡_ {A = ℕ} 0 1 = cc in omega arith)
     go true Open q t = t
     go false mode q t = tt
 
 -- power
-pub powered : (on : Bool) (b : List (List ℕ)) (mode : Mode) (ws : List Write) (p c : ℕ) → Settled on b mode → content true b Due ws p ≡ next (call.power c) (content on b mode ws p)
+pub powered : (on : Bool) (b : List (List ℕ)) (mode : Mode) (ws : List Write) (p c : ℕ) → Record-blank on b mode → content true b Due ws p ≡ next (call.power c) (content on b mode ws p)
 unfolding next
 powered true b Due ws p c w = refl
 powered true b Idle ws p c w = ap (λ (x : call.Finding). record { shape = content true b Due ws p .shape; durable = durable b; stage = call.due x }) (ap finding-of w)
@@ -338,8 +338,8 @@ module _ (b : List (List ℕ)) (ws : List Write) (p n : ℕ) (l : 8 ≤ length b
   whole-block x q = ap call.padded q ∙ padded-whole (getD b (7 + n) []) block-size
 
   pub got-block : (on : Bool) (mode : Mode) → barring needs.Live (content on b mode ws p) ≡ None → Whole on b mode ws p → None ≡ pended mode n ws → call.padded (getD (working (content on b mode ws p)) n []) ≡ getD b (7 + n) []
-  got-block true Idle live w o = whole-block (getD (durable b) n []) (page-at (w .settled))
-  got-block true Open live w o = whole-block (getD (stored ws (durable b)) n []) (looked-none n ws (durable b) o ∙ page-at (w .settled))
+  got-block true Idle live w o = whole-block (getD (durable b) n []) (page-at (w .record-blank))
+  got-block true Open live w o = whole-block (getD (stored ws (durable b)) n []) (looked-none n ws (durable b) o ∙ page-at (w .record-blank))
   got-block true Due live w o = absurd (let z : _≡_ {A = ℕ} 0 1 = cc in omega arith)
   got-block false mode live w o = absurd (let z : _≡_ {A = ℕ} 0 1 = cc in omega arith)
 
@@ -365,7 +365,7 @@ pub put-call : (on : Bool) (b : List (List ℕ)) (mode : Mode) (ws now : List Wr
     → Granted (call.put n v) (content on b mode ws p) (content on b mode now (p + 1)) × Whole on b mode now (p + 1)
 put-call true b Open ws now p n v s w h few l e =
     subst (λ (x : List Write). Granted (call.put n v) (content true b Open ws p) (content true b Open x (p + 1)) × Whole true b Open x (p + 1)) (sym e)
-    (put-granted b ws p n v h few l (w .opened), record { settled = w .settled; opened = grouped-put b ws p n v (w .opened) h l few })
+    (put-granted b ws p n v h few l (w .opened), record { record-blank = w .record-blank; opened = grouped-put b ws p n v (w .opened) h l few })
 put-call true b Due ws now p n v s w h few l e = absurd (let q = s .at in let z : _≡_ {A = ℕ} 0 1 = cc in omega arith)
 put-call true b Idle ws now p n v s w h few l e = absurd (let q = s .at in let z : _≡_ {A = ℕ} 0 1 = cc in omega arith)
 put-call false b mode ws now p n v s w h few l e = absurd (let q = s .lit in let z : _≡_ {A = ℕ} 0 1 = cc in omega arith)

@@ -69,11 +69,11 @@ pub record Grouped (b : List (List ℕ)) (ws : List Write) (p : ℕ) : Type 0 wh
   pub most : p ≤ 6
 
 -- in use, the commit record is empty
-abbrev pub Settled : Bool → List (List ℕ) → Mode → Type 0
-Settled true b Due = Unit {0}
-Settled true b Idle = naming b ≡ Some []
-Settled true b Open = naming b ≡ Some []
-Settled false b m = Unit {0}
+abbrev pub Record-blank : Bool → List (List ℕ) → Mode → Type 0
+Record-blank true b Due = Unit {0}
+Record-blank true b Idle = naming b ≡ Some []
+Record-blank true b Open = naming b ≡ Some []
+Record-blank false b m = Unit {0}
 
 abbrev pub Opened : List (List ℕ) → Mode → List Write → ℕ → Type 0
 Opened b Due ws p = Unit {0}
@@ -82,7 +82,7 @@ Opened b Open ws p = Grouped b ws p
 
 -- what ties a journal to its disk
 pub record Whole (on : Bool) (b : List (List ℕ)) (m : Mode) (ws : List Write) (p : ℕ) : Type 0 where
-  pub settled : Settled on b m
+  pub record-blank : Record-blank on b m
   pub opened : Opened b m ws p
 
 abbrev pub wholly : {D : Type 0} → (D → Device) → Journal D → Type 0

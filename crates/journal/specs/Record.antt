@@ -1,5 +1,5 @@
 -- The commit record: a number k, 0 to 6, then k different page numbers, then zeros to the end of its block.
-use Prim.Native.Nat.{ℕ, zero, suc, _-_, _<_}
+use Prim.Native.Nat.{ℕ, zero, suc, _-_, _<_, _≤_}
 use mathlib.Core.Path.{_≡_}
 use mathlib.Core.Bool.{Bool, true, false, not, cond, _&&_}
 use mathlib.Core.List.{List, [], _∷_, _++_}
@@ -7,6 +7,7 @@ use lib.ListN.{length, replicate}
 use lib.Dec.{ltb, eqb, leb}
 use Rattle.std.specs.declared.option.Option.{Option}
 use Rattle.std.specs.declared.option.Option.the-variants.{Some, None}
+use Rattle.std.specs.shelf.Lists.{All}
 use Rattle.number.specs.Leb.{leb-all, reading}
 
 -- the record that names these pages
@@ -52,3 +53,8 @@ Different cells (p ∷ ps) = (p < cells) × (member p ps ≡ false) × Different
 abbrev pub Below : ℕ → List ℕ → Type 0
 Below cells [] = Unit {0}
 Below cells (p ∷ ps) = (p < cells) × Below cells ps
+
+-- The law of the record: of 256 bytes exactly those are read that name at most six different pages of the store, then zeros; all else is damage.
+pub record Exactly (cells : ℕ) : Type 0 where
+  pub written : (ps : List ℕ) → length ps ≤ 6 → Different cells ps → named cells (record-of ps) ≡ Some ps
+  pub read : (bs ps : List ℕ) → All (λ b. b < 256) bs → length bs ≡ 256 → named cells bs ≡ Some ps → (bs ≡ record-of ps) × (length ps ≤ 6) × Different cells ps

@@ -5,14 +5,18 @@ ghost use Rattle.disk.specs.Device.{powered-up};
 ghost use Rattle.store.specs.Meaning.{Outcome, next, phase-of};
 ghost use Rattle.store.specs.Meaning as call;
 ghost use Rattle.journal.specs.Layout.{cells-of};
+ghost use Rattle.journal.specs.Record.{Exactly};
 ghost use Rattle.journal.specs.Meaning.{meaning, wholly, group-of, committed, recovered, Lawfully, pended};
 ghost use Rattle.std.specs.Options.{mapped};
 ghost use Rattle.journal.specs.declared.state.Mode.the-variants.{Due};
 use crate::group::Group;
 use crate::restore::restore;
+use crate::state::FIRST_PAGE;
 use crate::state::Journal;
+use crate::state::LAYER;
+use crate::state::LIMIT;
 use crate::state::Mode;
-use crate::writes::commit_pages;
+use crate::writes::write_parts;
 use disk::Disk;
 use refusal::Phase;
 use refusal::Reason;
@@ -23,10 +27,6 @@ use store::Shape;
 use store::Store;
 use store::Token;
 use store::check_phase;
-
-const LAYER: u32 = 1;
-
-const LIMIT: u32 = 6;
 
 impl<D: Disk> Journal<D> {
     // A journal over that disk, for which recovery is due. Where there is no memory for its group, the disk comes back.
@@ -68,7 +68,7 @@ impl<D: Disk> Journal<D> {
     fn cells(&self) -> u32
         ensures { λ r. ⌜ r ≡ cells-of (means (now (self .entry) .disk) .blocks) ⌝ }
     {
-        self.disk.count() - 7
+        self.disk.count() - FIRST_PAGE
     }
 
     // What the open group has put to a page.
@@ -134,7 +134,7 @@ pub impl<D: Disk> Store for Journal<D> as JournalStore {
                 *out = *bytes;
                 Ok(())
             }
-            None => self.disk.read(7 + n, out),
+            None => self.disk.read(FIRST_PAGE + n, out),
         }
     }
 
@@ -150,6 +150,7 @@ pub impl<D: Disk> Store for Journal<D> as JournalStore {
         if self.puts >= LIMIT {
             return Err(Refusal::new(Reason::LimitReached, LAYER, u64::from(LIMIT)));
         }
+        // no more pages than puts, so the group has room
         self.group.put(n as u16, v);
         self.puts += 1;
         Ok(())
@@ -163,7 +164,7 @@ pub impl<D: Disk> Store for Journal<D> as JournalStore {
     {
         token.retire();
         check_phase(self.standing(), Needs::Open, LAYER)?;
-        commit_pages(&mut self.disk, &self.group.pages)?;
+        write_parts(&mut self.disk, 0, &self.group.pages)?;
         self.mode = Mode::Idle;
         Ok(())
     }
@@ -192,6 +193,7 @@ pub impl<D: Disk> Store for Journal<D> as JournalStore {
         ensures outcome { λ r. ⌜ (wholly means (now (self .entry)) → Outcome call.recover (meaning means (now (self .entry))) r (meaning means (now (self .exit)))) ⌝ }
         ensures stays { λ _. ⌜ (wholly means (now (self .entry)) → wholly means (now (self .exit))) ⌝ }
         ensures disk { λ _. ⌜ means (now (self .exit) .disk) ≡ recovered (means (now (self .entry) .disk) .powered) (now (self .entry) .mode) (means (now (self .entry) .disk)) ⌝ }
+        ensures exact { λ _. ⌜ Exactly (cells-of (means (now (self .entry) .disk) .blocks)) ⌝ }
     {
         check_phase(self.standing(), Needs::Due, LAYER)?;
         restore(&mut self.disk, &mut self.group)?;

@@ -61,22 +61,34 @@ impl Group {
         }
     }
 
+    fn replace(&mut self, i: usize, page: u16, bytes: &[u8; 256])
+        requires { ⌜ First page (vec-items (now self .pages)) i ⌝ }
+        ensures { λ _. ⌜ entries (vec-items (now (self .exit) .pages)) ≡ remembered page (now (bytes .entry)) (entries (vec-items (now (self .entry) .pages))) ⌝ }
+    {
+        self.pages[i].bytes = *bytes;
+    }
+
+    fn append(&mut self, page: u16, bytes: &[u8; 256])
+        requires absent { ⌜ Absent page (vec-items (now self .pages)) ⌝ }
+        requires room { ⌜ vec-len (now self .pages) < 6 ⌝ }
+        ensures { λ _. ⌜ entries (vec-items (now (self .exit) .pages)) ≡ remembered page (now (bytes .entry)) (entries (vec-items (now (self .entry) .pages))) ⌝ }
+    {
+        self.pages.push_reserved(Pending {
+            page,
+            bytes: *bytes,
+        });
+    }
+
     // Puts a page: in its place if it was put before, else last. False, and nothing changes, where a seventh page finds no room.
     pub fn put(&mut self, page: u16, bytes: &[u8; 256]) -> bool
         ensures pages { λ r. ⌜ entries (vec-items (now (self .exit) .pages)) ≡ cond r (remembered page (now (bytes .entry)) (entries (vec-items (now (self .entry) .pages)))) (entries (vec-items (now (self .entry) .pages))) ⌝ }
         ensures room { λ r. ⌜ (vec-len (now (self .entry) .pages) < 6 → r ≡ true) ⌝ }
     {
-        if let Some(i) = self.find(page) {
-            self.pages[i].bytes = *bytes;
-            return true;
+        match self.find(page) {
+            Some(i) => self.replace(i, page, bytes),
+            None if self.pages.len() < MOST => self.append(page, bytes),
+            None => return false,
         }
-        if self.pages.len() >= MOST {
-            return false;
-        }
-        self.pages.push_reserved(Pending {
-            page,
-            bytes: *bytes,
-        });
         true
     }
 

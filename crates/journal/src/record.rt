@@ -2,6 +2,7 @@
 ghost use mathlib.Core.Path.{_≡_};
 ghost use mathlib.Core.Bool.{Bool};
 ghost use Prim.Native.Nat.{_+_, _≤_};
+ghost use lib.Dec.{leb};
 ghost use lib.ListN.{length};
 ghost use Rattle.std.specs.Of.Vec.{vec-items, vec-len};
 ghost use Rattle.journal.specs.Groups.{entries, told};
@@ -9,6 +10,7 @@ ghost use Rattle.journal.specs.Layout.{names};
 ghost use Rattle.journal.specs.Record.{record-of, all-zero, pages-from, named};
 use crate::group::Group;
 use crate::group::Pending;
+use crate::state::LIMIT;
 use number::read_number;
 use number::write_number;
 
@@ -64,6 +66,13 @@ fn read_pages(bytes: &[u8], left: u32, cells: u32, group: &mut Group) -> bool
     read_pages(rest, left - 1, cells, group)
 }
 
+// A record names no more pages than there are frames.
+fn nameable(count: u32) -> bool
+    ensures { λ r. ⌜ r ≡ leb count 6 ⌝ }
+{
+    count <= LIMIT
+}
+
 // Reads a commit record of a store of so many cells; false where it is damaged.
 pub fn read_record(block: &[u8; 256], cells: u32, group: &mut Group) -> bool
     requires { ⌜ cells ≤ 4096 ⌝ }
@@ -73,7 +82,7 @@ pub fn read_record(block: &[u8; 256], cells: u32, group: &mut Group) -> bool
     let Some((count, rest)) = read_number(block) else {
         return false;
     };
-    if count > 6 {
+    if !nameable(count) {
         return false;
     }
     read_pages(rest, count, cells, group)

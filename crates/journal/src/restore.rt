@@ -9,7 +9,9 @@ ghost use Rattle.journal.specs.Layout.{names, framed, naming, recover-writes};
 ghost use Rattle.journal.specs.Meaning.{recover-answer};
 use crate::group::Group;
 use crate::record::read_record;
-use crate::writes::settle_pages;
+use crate::state::FIRST_PAGE;
+use crate::state::LAYER;
+use crate::writes::write_parts;
 use disk::Disk;
 use refusal::Reason;
 use refusal::Refusal;
@@ -31,12 +33,10 @@ pub fn restore<D: Disk>(disk: &mut D, group: &mut Group) -> Result<(), Refusal>
 {
     let mut block = [0; 256];
     disk.read(0, &mut block)?;
-    if !read_record(&block, disk.count() - 7, group) {
-        return Err(Refusal::new(Reason::Damaged, 1, 0));
-    }
-    if group.pages.is_empty() {
-        return Ok(());
+    if !read_record(&block, disk.count() - FIRST_PAGE, group) {
+        return Err(Refusal::new(Reason::Damaged, LAYER, 0));
     }
     load_frames(disk, group)?;
-    settle_pages(disk, &group.pages)
+    // the last two parts of the commit that power cut
+    write_parts(disk, 2, &group.pages)
 }

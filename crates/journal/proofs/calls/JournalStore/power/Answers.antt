@@ -10,7 +10,7 @@ returns g c =
     let j = c .args .self .now in
     let d = g .D·Disk .means (j .disk) in
     record {
-      outcome = λ w. ap (λ (x : Device). content (x .powered) (x .blocks) Due (group-of j) (j .puts)) (c .power .ensures) ∙ powered (d .powered) (d .blocks) (j .mode) (group-of j) (j .puts) (c .args .charge) (w .settled);
-      stays = λ w. rw (c .power .ensures) (record { settled = tt; opened = tt });
+      outcome = λ w. ap (λ (x : Device). content (x .powered) (x .blocks) Due (group-of j) (j .puts)) (c .power .ensures) ∙ powered (d .powered) (d .blocks) (j .mode) (group-of j) (j .puts) (c .args .charge) (w .record-blank);
+      stays = λ w. rw (c .power .ensures) (record { record-blank = tt; opened = tt });
       disk = c .power .ensures;
     }

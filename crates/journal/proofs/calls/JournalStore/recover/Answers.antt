@@ -6,7 +6,10 @@ use Rattle.disk.specs.Device.{answer}
 use Rattle.store.specs.Meaning.{phase-bar}
 use Rattle.store.specs.Meaning as call
 use Rattle.store.specs.declared.Needs.the-variants as needs
+use native.Mathlib.Omega.{arith}
+use Rattle.journal.specs.Layout.{cells-of}
 use Rattle.journal.specs.Groups.{entries}
+use Rattle.journal.proofs.Exactness.{exactly}
 use Rattle.journal.specs.Meaning.{group-of}
 use Rattle.journal.proofs.Stages.{refused-phase, first-recover, answer-ok, answer-err, stands-due}
 use Rattle.journal.proofs.Commits.{recover-call, recover-barred}
@@ -22,6 +25,7 @@ returns-in-Break-check-phase g c =
       outcome = λ w. rw (r .1, r .2) (refused-phase (d .powered) (d .blocks) (j .mode) (group-of j) (j .puts) call.recover needs.Due _ (first-recover _ _) said);
       stays = λ w. w;
       disk = recover-barred d (d .powered) (d .blocks) (j .mode) (group-of j) (j .puts) _ (answer-err _ _ said);
+      exact = exactly (cells-of (d .blocks)) (omega (arith, g .D·Disk·met .formed (j .disk) .most));
     }
 
 pub returns-in-Break-restore : need.returns-in-Break-restore
@@ -39,6 +43,7 @@ returns-in-Break-restore g c =
       outcome = λ w. rw (r .1, r .2) (k .0 .outcome);
       stays = λ w. k .0 .stays;
       disk = k .1;
+      exact = exactly (cells-of (d .blocks)) (omega (arith, f .most));
     }
 
 pub returns : need.returns
@@ -54,4 +59,5 @@ returns g c =
       outcome = λ w. k .0 .outcome;
       stays = λ w. k .0 .stays;
       disk = k .1;
+      exact = exactly (cells-of (d .blocks)) (omega (arith, f .most));
     }
