@@ -1,4 +1,6 @@
 // A disk: blocks of 256 bytes, a charge (the writes left before power goes), and power or none.
+#![tactic(auto)]
+
 ghost use Rattle.std.specs.Prelude.{◌≡◌, Bool, length};
 ghost use Rattle.disk.specs.Device.{Device, Formed, answer, bar, filled, written, write_answer, powered_up};
 

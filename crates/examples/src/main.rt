@@ -1,4 +1,6 @@
 // Prints numbers and codes with their bytes, and whether the writer and the reader agree with the table.
+#![tactic(auto)]
+
 use number::{Code, read_code, read_number, write_code, write_number};
 use std::{fmt, io};
 

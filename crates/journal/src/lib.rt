@@ -1,4 +1,6 @@
 // The journal: a store of pages over any disk.
+#![tactic(auto)]
+
 pub mod calls;
 mod group;
 mod pages;

@@ -1,4 +1,6 @@
 // The parts that every level is made of: locks and which of them conflict, the slot table, and undo records.
+#![tactic(auto)]
+
 pub mod conflict;
 pub mod level;
 pub mod records;

@@ -1,4 +1,6 @@
 // Numbers below 2^32 as bytes, in the shortest form of LEB128, and operations as bytes made of a kind and such numbers.
+#![tactic(auto)]
+
 ghost use Rattle.std.specs.Prelude.{◌≡◌, ℕ, ◌+◌, ◌*◌, ◌^◌, ◌<◌, ◌≤◌, leb as leb≤, List, ◌++◌, length, Some, MatchOption};
 ghost use Rattle.std.specs.List.{AllByRecursion as All};
 ghost use Rattle.number.specs.Bytes.{held, Exact, Written};

@@ -1,4 +1,6 @@
 // Places of 64 bytes: the unit in which every level reads and writes the store below, whatever the size of its cells.
+#![tactic(auto)]
+
 ghost use Rattle.std.specs.Prelude.{◌≡◌, ℕ, ◌+◌, ◌-◌, ◌*◌, ◌^◌, ◌<◌, ◌≤◌, min, List, [], length, take, drop, Some, Ok, Err, slice_index_or, slice_set};
 ghost use Rattle.disk.specs.Device.{answer};
 ghost use Rattle.disk.specs.Runs.{stored, Inside};

@@ -1,4 +1,6 @@
 // Cuts power at every write of a commit, and at every write of the recovery after it, and shows what stands.
+#![tactic(auto)]
+
 ghost use Rattle.std.specs.Prelude.{◌≤◌};
 
 use case::{Case, Fault, Kind, cut_commit, cut_recovery};

@@ -1,4 +1,6 @@
 // What every part of a stack shares: why a call is refused, and the phases of a store.
+#![tactic(auto)]
+
 ghost use Rattle.std.specs.Prelude.{◌≡◌};
 ghost use Rattle.refusal.specs.Refusals.{number, refusal};
 

@@ -1,4 +1,6 @@
 // A store: an array of cells that is changed by atomic groups of puts.
+#![tactic(auto)]
+
 ghost use Rattle.std.specs.Prelude.{◌≡◌, [], slice_index_or};
 ghost use Rattle.store.specs.Meaning.{Content, Formed, Outcome, Filled, padded, working, next, phase_of, phase_bar};
 ghost use Rattle.disk.specs.Device.{answer};

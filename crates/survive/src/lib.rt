@@ -1,4 +1,6 @@
 // A store that loses power: it comes back with the content of before, or with the whole of the group that was being committed.
+#![tactic(auto)]
+
 ghost use Rattle.std.specs.Prelude.{◌≡◌, ℕ};
 ghost use Rattle.store.specs.Meaning.{Cells, grouped, finding, sound};
 ghost use Rattle.survive.specs.Promise.{Revived, Survived};

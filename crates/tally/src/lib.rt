@@ -1,4 +1,6 @@
 // The tally level: 32 counters modulo 2^32. Its laws, its operations as codes, and the bytes of its counters.
+#![tactic(auto)]
+
 ghost use Rattle.std.specs.Prelude.{◌≡◌, ◌+◌, ◌%◌, ◌^◌, ◌≤◌, Some, nat_lt};
 ghost use Rattle.tally.specs.Tallies.{inverse_amount, tally_conflict, Symmetric, Marks, TallyIsSerial, TallyRecovers};
 ghost use Rattle.tally.specs.Codes.{tally_code, tally_undo, Recordable};

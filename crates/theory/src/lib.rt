@@ -1,4 +1,6 @@
 // The serial law of the transaction manager, for every lawful level, and a small level to try it on.
+#![tactic(auto)]
+
 ghost use Rattle.theory.specs.Theory.{Theory, Lawful};
 ghost use Rattle.theory.specs.Machine.{Limits, DarkIsAnswered};
 ghost use Rattle.theory.specs.Serial.{WorkedIsSerial, EveryListIsWorked, RecoveryIsGranted};
