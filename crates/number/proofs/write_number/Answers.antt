@@ -7,7 +7,7 @@ pub loop-left-init : goal.loop-left-init
 loop-left-init c = start c.args.n c.args.at c.args.out.now (omega arith)
 
 in_turn : (c : In-loop-left) → c.loop-left.end < length c.loop-left.out
-in_turn c = inside c.args.n c.args.at c.args.out.now c.loop-left.left c.loop-left.end c.loop-left.out c.number-len.result c.number-len.ensures c.if-not-has-room.ensures c.loop-left.auto.out c.loop-left.invariant
+in_turn c = inside c.args.n c.args.at c.args.out.now c.loop-left.left c.loop-left.end c.loop-left.out c.number_len.result c.number_len.ensures c.if-not-has_room.ensures c.loop-left.auto.out c.loop-left.invariant
 
 pub bounds-out-end : goal.bounds-out-end
 bounds-out-end c = in_turn c
@@ -17,7 +17,7 @@ loop-left-preserved c =
     again c.args.n c.args.at c.args.out.now c.loop-left.left c.loop-left.end c.loop-left.out (omega arith) (in_turn c) c.loop-left.invariant
 
 at_last : (c : After-loop-left) → c.loop-left.end < length c.loop-left.out
-at_last c = inside c.args.n c.args.at c.args.out.now c.loop-left.left c.loop-left.end c.loop-left.out c.number-len.result c.number-len.ensures c.if-not-has-room.ensures c.loop-left.auto.out c.loop-left.invariant
+at_last c = inside c.args.n c.args.at c.args.out.now c.loop-left.left c.loop-left.end c.loop-left.out c.number_len.result c.number_len.ensures c.if-not-has_room.ensures c.loop-left.auto.out c.loop-left.invariant
 
 pub bounds-out-end-2 : goal.bounds-out-end-2
 bounds-out-end-2 c = at_last c

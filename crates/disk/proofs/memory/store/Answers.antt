@@ -7,8 +7,8 @@ pub returns : goal.returns
 returns c =
     let at = 256 * c.args.k in
     let m = c.args.memory.now in
-    let e = put_over at c.deref-mut.result.now c.copy-from-slice.new.self
-    ∙ both (over at) c.copy-from-slice.ensures.after c.deref-mut.ensures.value in
+    let e = put_over at c.deref_mut.result.now c.copy_from_slice.new.self
+    ∙ both (over at) c.copy_from_slice.ensures.after c.deref_mut.ensures.value in
     let n : length c.args.block.now ≡ 256 = omega arith in
     record {
       bytes = with_items_is m _ (ap length e ∙ length_over at c.args.block.now (vec_items m) n (omega (arith, m.ok.0)) ∙ sym m.ok.0) ∙ e;

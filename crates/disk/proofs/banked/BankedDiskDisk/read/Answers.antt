@@ -21,7 +21,7 @@ returns-in-err-admit c =
 pub load-requires : goal.load-requires
 load-requires c =
     let d = c.args.self.now in
-    omega (arith, reached_within c.args.n (2 * d.half) d.supply.powered c.in-ok-admit.ensures)
+    omega (arith, reached_within c.args.n (2 * d.half) d.supply.powered c.in_ok-admit.ensures)
 
 pub returns : goal.returns
 returns c =
@@ -30,7 +30,7 @@ returns c =
     let s = vec_items d.second in
     let b = banks_of d.half f s in
     let n = length_banks d.half f s in
-    let e = c.in-ok-admit.ensures in
+    let e = c.in_ok-admit.ensures in
     let within = reached_within c.args.n (2 * d.half) d.supply.powered e in
     record {
       answer = e ∙ ap answer (sym (bar_is c.args.n (2 * d.half) d.supply.charge d.supply.powered b n));

@@ -21,12 +21,12 @@ returns-in-err-spend c =
 pub store-requires : goal.store-requires
 store-requires c =
     let d = c.args.self.now in
-    omega (arith, spent_within c.args.n (2 * d.half) d.supply.charge d.supply.powered c.in-ok-spend.ensures.answer)
+    omega (arith, spent_within c.args.n (2 * d.half) d.supply.charge d.supply.powered c.in_ok-spend.ensures.answer)
 
 pub store-requires-else-n-eq0 : goal.store-requires-else-n-eq0
 store-requires-else-n-eq0 c =
     let d = c.args.self.now in
-    omega (arith, spent_within c.args.n (2 * d.half) d.supply.charge d.supply.powered c.in-ok-spend.ensures.answer)
+    omega (arith, spent_within c.args.n (2 * d.half) d.supply.charge d.supply.powered c.in_ok-spend.ensures.answer)
 
 pub returns-then-n-eq0 : goal.returns-then-n-eq0
 returns-then-n-eq0 c =
@@ -35,7 +35,7 @@ returns-then-n-eq0 c =
     let s = vec_items d.second in
     let b = banks_of d.half f s in
     let n = length_banks d.half f s in
-    let e = c.in-ok-spend.ensures in
+    let e = c.in_ok-spend.ensures in
     let within = spent_within c.args.n (2 * d.half) d.supply.charge d.supply.powered e.answer in
     let bytes = c.store.ensures.bytes ∙ ap (λ l. over (256 * (c.args.n / 2)) l f) c.inverse-turned.ensures in
     let blocks = ap (λ l. banks_of d.half l s) bytes
@@ -54,7 +54,7 @@ returns-else-n-eq0 c =
     let s = vec_items d.second in
     let b = banks_of d.half f s in
     let n = length_banks d.half f s in
-    let e = c.in-ok-spend.ensures in
+    let e = c.in_ok-spend.ensures in
     let within = spent_within c.args.n (2 * d.half) d.supply.charge d.supply.powered e.answer in
     let bytes = c.store-else-n-eq0.ensures.bytes ∙ ap (λ l. over (256 * (c.args.n / 2)) l s) c.inverse-turned.ensures in
     let blocks = ap (λ l. banks_of d.half f l) bytes

@@ -14,6 +14,6 @@ invariant-of-result c =
 pub returns-in-Ok : goal.returns-in-Ok
 returns-in-Ok c =
     let n = c.args.blocks in
-    let zeros = ap (blocks_of n) (c.in-Ok.ensures.exact (λ y h. h)) ∙ blocks_replicate n 0 in
+    let zeros = ap (blocks_of n) (c.in-Ok.ensures.items_if_clones_equal (λ y h. h)) ∙ blocks_replicate n 0 in
     let at = c.new.ensures in
-    (none_from_ok (count_refusal n) c.in-default.ensures, cc (zeros, at.0, at.1))
+    (none_from_ok (count_refusal n) c.in_default.ensures, cc (zeros, at.0, at.1))

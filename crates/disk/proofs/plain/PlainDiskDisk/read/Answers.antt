@@ -21,7 +21,7 @@ returns-in-err-admit c =
 pub load-requires : goal.load-requires
 load-requires c =
     let d = c.args.self.now in
-    omega (arith, reached_within c.args.n d.count d.supply.powered c.in-ok-admit.ensures)
+    omega (arith, reached_within c.args.n d.count d.supply.powered c.in_ok-admit.ensures)
 
 pub returns : goal.returns
 returns c =
@@ -29,7 +29,7 @@ returns c =
     let m = vec_items d.memory in
     let b = blocks_of d.count m in
     let n = length_blocks d.count m in
-    let e = c.in-ok-admit.ensures in
+    let e = c.in_ok-admit.ensures in
     let within = reached_within c.args.n d.count d.supply.powered e in
     record {
       answer = e ∙ ap answer (sym (bar_is c.args.n d.count d.supply.charge d.supply.powered b n));

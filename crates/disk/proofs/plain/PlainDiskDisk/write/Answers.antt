@@ -20,7 +20,7 @@ returns-in-err-spend c =
 pub store-requires : goal.store-requires
 store-requires c =
     let d = c.args.self.now in
-    omega (arith, spent_within c.args.n d.count d.supply.charge d.supply.powered c.in-ok-spend.ensures.answer)
+    omega (arith, spent_within c.args.n d.count d.supply.charge d.supply.powered c.in_ok-spend.ensures.answer)
 
 pub returns : goal.returns
 returns c =
@@ -28,7 +28,7 @@ returns c =
     let m = vec_items d.memory in
     let b = blocks_of d.count m in
     let n = length_blocks d.count m in
-    let e = c.in-ok-spend.ensures in
+    let e = c.in_ok-spend.ensures in
     let within = spent_within c.args.n d.count d.supply.charge d.supply.powered e.answer in
     let blocks = ap (blocks_of d.count) c.store.ensures.bytes
     ∙ set_blocks d.count c.args.n m c.args.v.now within (sym d.memory.ok.0 ∙ d.whole) (omega arith) in
