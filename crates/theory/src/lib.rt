@@ -22,16 +22,16 @@ pub trait Theoretical {
 
 // Every history of the level's manager is serial, and every list of calls has one.
 pub fn serial_stands<L: Theoretical>() -> u8
-    ensures serial { WorkedIsSerial theory limits }
-    ensures worked { EveryListIsWorked theory limits }
+    ensures serial { WorkedIsSerial L.theory L.limits }
+    ensures worked { EveryListIsWorked L.theory L.limits }
 {
     0
 }
 
 // Recovery with power is granted, and only a dark manager answers that it is dark.
 pub fn recovery_stands<L: Theoretical>() -> u8
-    ensures granted { RecoveryIsGranted theory limits }
-    ensures dark { DarkIsAnswered theory limits }
+    ensures granted { RecoveryIsGranted L.theory L.limits }
+    ensures dark { DarkIsAnswered L.theory L.limits }
 {
     0
 }

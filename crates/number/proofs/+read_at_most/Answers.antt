@@ -5,10 +5,9 @@ use Rattle.number.specs.Bytes.{held}
 use Rattle.number.specs.Reads.{Got}
 use Rattle.number.proofs.Steps.{room_below, got_none, got_top, got_last, got_break, got_zero, got_more, got_at}
 use Rattle.number.proofs.+read_at_most.Goals as goal
-use Rattle.number.proofs.+read_at_most.Goals.{After-read-at-most}
 
-pub returns-in-default : goal.returns-in-default
-returns-in-default t c =
+pub returns-in_default : goal.returns-in_default
+returns-in_default t c =
     let none : length c.args.bytes.now ≡ 0 = omega (arith, ltb-true) in
     got_at refl (nil_from_length c.args.bytes.now none) (got_none c.args.left)
 
@@ -34,44 +33,36 @@ record Step (bytes : List ℕ) (k low : ℕ) : Type 0 where
   is : low ≡ get_or bytes 0 0 - 128
   back : suc (k - 1) ≡ k
 
-step : (t : ℕ) (c : After-read-at-most t) → Step c.args.bytes.now c.args.left c.in-More.low
-step t c =
-    let more = c.in-More.ensures in
-    record {
-      some = omega (arith, ltb-false);
-      high = more.1;
-      byte = omega arith;
-      is = more.0;
-      back = omega (arith, more.2);
-    }
+step : {bytes : List ℕ} {k low : ℕ} → 0 < length bytes → (low ≡ get_or bytes 0 0 - 128) × (128 ≤ get_or bytes 0 0) × (0 < k) → get_or bytes 0 0 < 256 → Step bytes k low
+step some more byte = record { some = some; high = more.1; byte = byte; is = more.0; back = omega (arith, more.2) }
 
-pub returns-in-err-high : goal.returns-in-err-high
-returns-in-err-high t c =
+pub returns-in_err-high-in-More : goal.returns-in_err-high-in-More
+returns-in_err-high-in-More t c =
     let bytes = c.args.bytes.now in
     let k = c.args.left in
-    let s = step t (goal.at.returns-in-err-high t c).After-read-at-most in
-    let none = got_break (k - 1) (get_or bytes 0 0) _ s.high c.in-err-high.ensures in
-    subst (λ r. Got k bytes (held r)) (sym c.from-residual.ensures) (got_at s.back (first_rest bytes 0 s.some) none)
+    let s = step {bytes = c.args.bytes.now} {k = c.args.left} {low = c.in-More.low} (omega (arith, ltb-false)) c.in-More.ensures (omega arith) in
+    let none = got_break (k - 1) (get_or bytes 0 0) _ s.high c.in_err-high-in-More.ensures in
+    subst (λ r. Got k bytes (held r)) (sym c.from_residual.ensures) (got_at s.back (first_rest bytes 0 s.some) none)
 
 pub joined-requires : goal.joined-requires
 joined-requires t c =
-    let s = step t (goal.at.joined-requires t c).After-read-at-most in
+    let s = step {bytes = c.args.bytes.now} {k = c.args.left} {low = c.in-More.low} (omega (arith, ltb-false)) c.in-More.ensures (omega arith) in
     let at : c.args.left - 1 ≤ 3 = omega arith in
-    (omega (arith, s.byte, s.is), omega (arith, room_below (c.args.left - 1) at, c.in-ok-high.ensures.sound.0))
+    (omega (arith, s.byte, s.is), omega (arith, room_below (c.args.left - 1) at, c.in_ok-high-in-More.ensures.sound.0))
 
-pub returns-in-err-n : goal.returns-in-err-n
-returns-in-err-n t c =
+pub returns-in_err-n-in-More : goal.returns-in_err-n-in-More
+returns-in_err-n-in-More t c =
     let bytes = c.args.bytes.now in
     let k = c.args.left in
-    let s = step t (goal.at.returns-in-err-n t c).After-read-at-most in
-    let none = got_zero (k - 1) (get_or bytes 0 0) _ _ _ s.high c.in-err-n.ensures c.in-ok-high.ensures in
-    subst (λ r. Got k bytes (held r)) (sym c.from-residual-in-err-n.ensures) (got_at s.back (first_rest bytes 0 s.some) none)
+    let s = step {bytes = c.args.bytes.now} {k = c.args.left} {low = c.in-More.low} (omega (arith, ltb-false)) c.in-More.ensures (omega arith) in
+    let none = got_zero (k - 1) (get_or bytes 0 0) _ _ _ s.high c.in_err-n-in-More.ensures c.in_ok-high-in-More.ensures in
+    subst (λ r. Got k bytes (held r)) (sym c.from_residual-in_err-n-in-More.ensures) (got_at s.back (first_rest bytes 0 s.some) none)
 
-pub returns-in-ok-n : goal.returns-in-ok-n
-returns-in-ok-n t c =
+pub returns-in_ok-n-in-More : goal.returns-in_ok-n-in-More
+returns-in_ok-n-in-More t c =
     let bytes = c.args.bytes.now in
-    let s = step t (goal.at.returns-in-ok-n t c).After-read-at-most in
-    let m = c.in-ok-high.high in
-    let is : c.in-ok-n.n ≡ get_or bytes 0 0 - 128 + 128 * m = omega (arith, s.is, c.in-ok-n.ensures.1) in
-    let got = got_more (c.args.left - 1) (get_or bytes 0 0) m c.in-ok-n.n _ _ s.high s.byte c.in-ok-n.ensures.0 is c.in-ok-high.ensures in
+    let s = step {bytes = c.args.bytes.now} {k = c.args.left} {low = c.in-More.low} (omega (arith, ltb-false)) c.in-More.ensures (omega arith) in
+    let m = c.in_ok-high-in-More.high in
+    let is : c.in_ok-n-in-More.n ≡ get_or bytes 0 0 - 128 + 128 * m = omega (arith, s.is, c.in_ok-n-in-More.ensures.1) in
+    let got = got_more (c.args.left - 1) (get_or bytes 0 0) m c.in_ok-n-in-More.n _ _ s.high s.byte c.in_ok-n-in-More.ensures.0 is c.in_ok-high-in-More.ensures in
     got_at s.back (first_rest bytes 0 s.some) got

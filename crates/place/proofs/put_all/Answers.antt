@@ -15,22 +15,22 @@ loop-write-preserved g c =
     let ws = c.args.writes.now in
     let x = c.write-item.result in
     let l : i < length ws = c.loop-write-test.true in
-    let o = c.in-ok-put-place.ensures in (
+    let o = c.in_ok-put_place.ensures in (
       λ w. o.stays (c.loop-write.invariant.0 w),
       λ m w h inside few.
           same_group _ (stored_more f ws i x l c.write-item.is (shown m))
           (o.outcome m (stored (take i (listed f ws)) (shown m)) i (c.loop-write.invariant.0 w) (c.loop-write.invariant.1 m w h inside few) (next_inside f ws i x l c.write-item.is (shown m) inside) (omega arith)),
     )
 
-pub returns-in-err-put-place : goal.returns-in-err-put-place
-returns-in-err-put-place g c =
+pub returns-in_err-put_place : goal.returns-in_err-put_place
+returns-in_err-put_place g c =
     let i = c.loop-write.write-index in
     let f = g.C.Fill.bytes in
     let ws = c.args.writes.now in
     let x = c.write-item.result in
     let l : i < length ws = c.loop-write-test.true in
-    let o = c.in-err-put-place.ensures in
-    let p = err_from_is_err_and c.from-residual.result c.from-residual.ensures.1 in
+    let o = c.in_err-put_place.ensures in
+    let p = err_from_is_err_and c.from_residual.result c.from_residual.ensures.1 in
     record {
       outcome = λ m w h inside few.
           relayed _ _ _ _ p.1 p.2 (o.outcome m (stored (take i (listed f ws)) (shown m)) i (c.loop-write.invariant.0 w) (c.loop-write.invariant.1 m w h inside few) (next_inside f ws i x l c.write-item.is (shown m) inside) (omega arith));

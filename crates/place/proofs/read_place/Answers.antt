@@ -9,13 +9,13 @@ use Rattle.place.specs.Places.{places, cell_of, start_of}
 use Rattle.place.proofs.Groups.{place_read, refused_answer, refused_buffer, refused_never}
 use Rattle.place.proofs.read_place.Goals as goal
 
-pub returns-in-err-get : goal.returns-in-err-get
-returns-in-err-get g c =
+pub returns-in_err-get : goal.returns-in_err-get
+returns-in_err-get g c =
     let s = c.args.s.now in
     let m = g.S.Store.means s in
     let p = c.args.p in
-    let o = c.in-err-get.ensures in
-    let q = err_from_is_err_and c.from-residual.result c.from-residual.ensures.1 in
+    let o = c.in_err-get.ensures in
+    let q = err_from_is_err_and c.from_residual.result c.from_residual.ensures.1 in
     record {
       answers = λ w.
           let e = c.locate-spot.ensures.cell ∙ ap (λ (x : Shape). cell_of x.size p) (c.shape.ensures w) in
@@ -31,10 +31,10 @@ returns g c =
     let s = c.args.s.now in
     let m = g.S.Store.means s in
     let p = c.args.p in
-    let o = c.in-ok-get.ensures in
-    let read : g.S.Store.whole s → c.copy-place.new.out ≡ get_or (places m.shape.size (working m)) p [] = λ w.
+    let o = c.in_ok-get.ensures in
+    let read : g.S.Store.whole s → c.copy_place.new.out ≡ get_or (places m.shape.size (working m)) p [] = λ w.
     let sh = c.shape.ensures w in
-    c.copy-place.ensures ∙ place_read m p _ _ _ (g.met.S.Store.formed s w) (c.locate-spot.ensures.cell ∙ ap (λ (x : Shape). cell_of x.size p) sh) (c.locate-spot.ensures.start ∙ ap (λ (x : Shape). start_of x.size p) sh) (o.outcome w).free (o.buffer w) in
+    c.copy_place.ensures ∙ place_read m p _ _ _ (g.met.S.Store.formed s w) (c.locate-spot.ensures.cell ∙ ap (λ (x : Shape). cell_of x.size p) sh) (c.locate-spot.ensures.start ∙ ap (λ (x : Shape). start_of x.size p) sh) (o.outcome w).free (o.buffer w) in
     record {
       answers = λ w.
           let e = c.locate-spot.ensures.cell ∙ ap (λ (x : Shape). cell_of x.size p) (c.shape.ensures w) in

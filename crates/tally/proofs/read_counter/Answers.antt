@@ -9,4 +9,4 @@ returns c =
     let i = c.args.i in
     let bytes = c.args.bytes.now in
     let inside : 4 * i + 4 ≤ length bytes = omega arith in
-    ap Some (c.four-bytes.ensures ∙ sym (counter_is bytes i inside)) ∙ cond_below i 16 (Some (get_or (reading_counters bytes) i 0)) None c.if-i-ge-PER-PLACE.false
+    ap Some (c.four_bytes.ensures ∙ sym (counter_is bytes i inside)) ∙ cond_below i 16 (Some (get_or (reading_counters bytes) i 0)) None c.if-i-ge-PER_PLACE.false

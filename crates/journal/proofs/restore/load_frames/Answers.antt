@@ -7,12 +7,12 @@ use Rattle.journal.proofs.restore.load_frames.Goals as goal
 pub loop-turn-init : goal.loop-turn-init
 loop-turn-init g c = (refl, λ p. loading_none _ _)
 
-pub returns-in-err-read : goal.returns-in-err-read
-returns-in-err-read g c p =
+pub returns-in_err-read : goal.returns-in_err-read
+returns-in_err-read g c p =
     let d = g.D.Disk.means c.args.disk.now in
     let i = c.loop-turn.turn in
     let h : 1 + i < length d.blocks = omega (arith, (g.met.D.Disk.formed c.args.disk.now).least, c.loop-turn.group.few, c.loop-turn.invariant.0) in
-    read_granted (1 + i) d c.read.result _ p h c.read.ensures.answer c.in-err-read.was
+    read_granted (1 + i) d c.read.result _ p h c.read.ensures.answer c.in_err-read.was
 
 pub loop-turn-preserved : goal.loop-turn-preserved
 loop-turn-preserved g c =
@@ -24,9 +24,9 @@ loop-turn-preserved g c =
       c.loop-turn.invariant.0,
       λ p.
           let got = read_done (1 + i) d _ c.read.new.out c.read.result p h c.read.ensures.answer c.read.ensures.buffer in
-          let entry = c.index-mut.result.now in
+          let entry = c.index_mut.result.now in
           loading_more d.blocks (vec_items c.args.group.now.pages) now i entry _ inside (c.loop-turn.invariant.1 p)
-          (ap (λ (q : Pending). record { page = q.page; bytes = c.read.new.out }) c.index-mut.ensures.value ∙ ap (λ v. record { page = (get_or now i entry).page; bytes = v }) got.1),
+          (ap (λ (q : Pending). record { page = q.page; bytes = c.read.new.out }) c.index_mut.ensures.value ∙ ap (λ v. record { page = (get_or now i entry).page; bytes = v }) got.1),
     )
 
 pub returns : goal.returns

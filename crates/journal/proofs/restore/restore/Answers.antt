@@ -7,33 +7,33 @@ use Rattle.journal.specs.Groups.{entries, told}
 use Rattle.journal.proofs.Restoring.{restored_damaged, restored}
 use Rattle.journal.proofs.restore.restore.Goals as goal
 
-pub returns-in-err-read : goal.returns-in-err-read
-returns-in-err-read g c =
+pub returns-in_err-read : goal.returns-in_err-read
+returns-in_err-read g c =
     let d = g.D.Disk.means c.args.disk.now in
     let h : 0 < length d.blocks = omega (arith, (g.met.D.Disk.formed c.args.disk.now).least) in
     record {
-      after = λ p. read_granted 0 d c.read.result _ p h c.read.ensures.answer c.in-err-read.was;
-      answer = λ p. read_granted 0 d c.read.result _ p h c.read.ensures.answer c.in-err-read.was;
+      after = λ p. read_granted 0 d c.read.result _ p h c.read.ensures.answer c.in_err-read.was;
+      answer = λ p. read_granted 0 d c.read.result _ p h c.read.ensures.answer c.in_err-read.was;
     }
 
-pub returns-then-not-read-record : goal.returns-then-not-read-record
-returns-then-not-read-record g c =
+pub returns-then-not-read_record : goal.returns-then-not-read_record
+returns-then-not-read_record g c =
     let d = g.D.Disk.means c.args.disk.now in
     let h : 0 < length d.blocks = omega (arith, (g.met.D.Disk.formed c.args.disk.now).least) in
     let k = λ (p : d.powered ≡ true).
     let got = read_done 0 d _ c.read.new.out c.read.result p h c.read.ensures.answer c.read.ensures.buffer in
-    restored_damaged (naming d.blocks) d (c.if-not-read-record.ensures ∙ ap (λ n. named (n - 7) c.read.new.out) c.count.ensures ∙ ap (named (length d.blocks - 7)) got.1) in
+    restored_damaged (naming d.blocks) d (c.if-not-read_record.ensures ∙ ap (λ n. named (n - 7) c.read.new.out) c.count.ensures ∙ ap (named (length d.blocks - 7)) got.1) in
     record { after = λ p. (k p).after; answer = λ p. ap Err c.new.ensures ∙ (k p).answer }
 
 pub returns : goal.returns
 returns g c =
     let d = g.D.Disk.means c.args.disk.now in
     let h : 0 < length d.blocks = omega (arith, (g.met.D.Disk.formed c.args.disk.now).least) in
-    let pages = c.read-record.new.group.pages in
+    let pages = c.read_record.new.group.pages in
     let ps = names (entries (vec_items pages)) in
     let k = λ (p : d.powered ≡ true).
     let got = read_done 0 d _ c.read.new.out c.read.result p h c.read.ensures.answer c.read.ensures.buffer in
-    let run : Ran _ _ _ _ = record { after = c.write-parts.ensures.after; answer = c.write-parts.ensures.answer } in
-    let same = ap (λ l. writes_from 2 (entries l)) c.deref.ensures.value ∙ ap (writes_from 2) (c.load-frames.ensures p).1 in
-    restored (naming d.blocks) ps d _ _ (c.if-not-read-record.ensures ∙ ap (λ n. named (n - 7) c.read.new.out) c.count.ensures ∙ ap (named (length d.blocks - 7)) got.1) (as_run same run) in
+    let run : Ran _ _ _ _ = record { after = c.write_parts.ensures.after; answer = c.write_parts.ensures.answer } in
+    let same = ap (λ l. writes_from 2 (entries l)) c.deref.ensures.value ∙ ap (writes_from 2) (c.load_frames.ensures p).1 in
+    restored (naming d.blocks) ps d _ _ (c.if-not-read_record.ensures ∙ ap (λ n. named (n - 7) c.read.new.out) c.count.ensures ∙ ap (named (length d.blocks - 7)) got.1) (as_run same run) in
     record { after = λ p. (k p).after; answer = λ p. (k p).answer }

@@ -11,8 +11,8 @@ use Rattle.journal.proofs.writes.write_pages.Goals as goal
 pub loop-turn-init : goal.loop-turn-init
 loop-turn-init g c = underway_none _ _
 
-pub returns-in-err-write : goal.returns-in-err-write
-returns-in-err-write g c =
+pub returns-in_err-write : goal.returns-in_err-write
+returns-in_err-write g c =
     let ps = c.args.pages.now in
     let i = c.loop-turn.turn in
     let p : Pending = get_or ps i (record { page = 0; bytes = [] }) in
@@ -20,10 +20,10 @@ returns-in-err-write g c =
     let ws = writes_to c.args.side 0 (entries ps) in
     let now = g.D.Disk.means c.loop-turn.disk in
     let left = c.write.ensures.after ∙ ap (λ n. written n p.bytes now) c.block.ensures in
-    let said = ap (λ n. write_answer n now) (sym c.block.ensures) ∙ sym c.write.ensures.answer ∙ c.in-err-write.was in
+    let said = ap (λ n. write_answer n now) (sym c.block.ensures) ∙ sym c.write.ensures.answer ∙ c.in_err-write.was in
     let within : i < length ws = omega (arith, length_writes c.args.side 0 ps, c.loop-turn-test.true) in
     let o = underway_stop ws (g.D.Disk.means c.args.disk.now) now _ i (at, p.bytes) within (turn_write c.args.side i ps _ _ c.loop-turn-test.true) c.loop-turn.invariant left _ said in
-    let r = err_from_is_err_and c.from-residual.result c.from-residual.ensures.1 in
+    let r = err_from_is_err_and c.from_residual.result c.from_residual.ensures.1 in
     record { after = o.0; answer = rw (r.1, r.2) (sym o.1) }
 
 pub loop-turn-preserved : goal.loop-turn-preserved
@@ -35,7 +35,7 @@ loop-turn-preserved g c =
     let ws = writes_to c.args.side 0 (entries ps) in
     let now = g.D.Disk.means c.loop-turn.disk in
     let left = c.write.ensures.after ∙ ap (λ n. written n p.bytes now) c.block.ensures in
-    let said = ap (λ n. write_answer n now) (sym c.block.ensures) ∙ sym c.write.ensures.answer ∙ c.in-ok-write.was in
+    let said = ap (λ n. write_answer n now) (sym c.block.ensures) ∙ sym c.write.ensures.answer ∙ c.in_ok-write.was in
     let within : i < length ws = omega (arith, length_writes c.args.side 0 ps, c.loop-turn-test.true) in
     underway_more ws (g.D.Disk.means c.args.disk.now) now _ i (at, p.bytes) within (turn_write c.args.side i ps _ _ c.loop-turn-test.true) c.loop-turn.invariant left said
 

@@ -9,10 +9,10 @@ use Rattle.journal.specs.Groups.{entries}
 use Rattle.journal.proofs.Turns.{parts_next, parts_left, parts_done}
 use Rattle.journal.proofs.writes.write_parts.Goals as goal
 
-pub returns-then-is-empty : goal.returns-then-is-empty
-returns-then-is-empty g c =
+pub returns-then-is_empty : goal.returns-then-is_empty
+returns-then-is_empty g c =
     let ps = c.args.pages.now in
-    let e = nil_from_length ps (eqb-true (length ps) 0 (sym c.if-is-empty.ensures)) in
+    let e = nil_from_length ps (eqb-true (length ps) 0 (sym c.if-is_empty.ensures)) in
     let d = g.D.Disk.means c.args.disk.now in
     record {
       after = sym (ran_none d).0 ∙ ap (λ l. ran (writes_from c.args.first (entries l)) d) (sym e);
@@ -26,17 +26,17 @@ loop-step-init g c =
     let n : Ran _ d d _ = record { after = sym (ran_none d).0; answer = sym (ran_none d).1 } in
     as_run (ap (λ k. parts_from k c.args.first (entries c.args.pages.now)) (sym z)) n
 
-pub returns-in-err-write-part : goal.returns-in-err-write-part
-returns-in-err-write-part g c =
+pub returns-in_err-write_part : goal.returns-in_err-write_part
+returns-in_err-write_part g c =
     let ps = c.args.pages.now in
     let ws = entries ps in
     let step = c.loop-step.step in
     let from : c.args.first ≤ step = omega arith in
-    let a : Ran _ _ _ _ = record { after = c.write-part.ensures.after; answer = c.write-part.ensures.answer } in
+    let a : Ran _ _ _ _ = record { after = c.write_part.ensures.after; answer = c.write_part.ensures.answer } in
     let p = as_run (ap (λ x. part_writes x ws) c.ordered.ensures) a in
-    let b = then_run c.loop-step.invariant refl (then_stop (parts_from (4 - (step + 1)) (step + 1) ws) p c.in-err-write-part.was) in
-    let k = as_run (parts_left c.args.first step ps from c.loop-step-test.true (eqb-false (length ps) 0 (sym c.if-is-empty.ensures))) b in
-    let r = err_from_is_err_and c.from-residual.result c.from-residual.ensures.1 in
+    let b = then_run c.loop-step.invariant refl (then_stop (parts_from (4 - (step + 1)) (step + 1) ws) p c.in_err-write_part.was) in
+    let k = as_run (parts_left c.args.first step ps from c.loop-step-test.true (eqb-false (length ps) 0 (sym c.if-is_empty.ensures))) b in
+    let r = err_from_is_err_and c.from_residual.result c.from_residual.ensures.1 in
     record { after = k.after; answer = rw (r.1, r.2) k.answer }
 
 pub loop-step-preserved : goal.loop-step-preserved
@@ -44,7 +44,7 @@ loop-step-preserved g c =
     let ps = c.args.pages.now in
     let step = c.loop-step.step in
     let from : c.args.first ≤ step = omega arith in
-    let a : Ran _ _ _ _ = record { after = c.write-part.ensures.after; answer = sym c.in-ok-write-part.was ∙ c.write-part.ensures.answer } in
+    let a : Ran _ _ _ _ = record { after = c.write_part.ensures.after; answer = sym c.in_ok-write_part.was ∙ c.write_part.ensures.answer } in
     let p = as_run (ap (λ x. part_writes x (entries ps)) c.ordered.ensures) a in
     as_run (parts_next c.args.first step ps from) (then_run c.loop-step.invariant refl p)
 
@@ -54,5 +54,5 @@ returns g c =
     let step = c.loop-step.step in
     let from : c.args.first ≤ step = omega arith in
     let last : step ≡ 4 = omega (arith, c.requires.step) in
-    let k = as_run (parts_done c.args.first step ps from last (eqb-false (length ps) 0 (sym c.if-is-empty.ensures))) c.loop-step.invariant in
+    let k = as_run (parts_done c.args.first step ps from last (eqb-false (length ps) 0 (sym c.if-is_empty.ensures))) c.loop-step.invariant in
     record { after = k.after; answer = k.answer }

@@ -9,5 +9,5 @@ use Rattle.journal.proofs.writes.write_record.Goals as goal
 pub returns : goal.returns
 returns g c =
     let d = g.D.Disk.means c.args.disk.now in
-    let k = one_write 0 (record_of (names (entries c.args.pages.now))) (c.write.ensures.after ∙ ap (λ v. written 0 v d) c.commit-record.ensures) c.write.ensures.answer in
+    let k = one_write 0 (record_of (names (entries c.args.pages.now))) (c.write.ensures.after ∙ ap (λ v. written 0 v d) c.commit_record.ensures) c.write.ensures.answer in
     record { after = k.after; answer = k.answer }

@@ -11,6 +11,6 @@ returns c =
     let m = c.args.records in
     let low : t < 64 = omega arith in
     record {
-      value = c.read-slot.ensures.value ∙ sym (cond-true (ltb t 64) (slot_of m (get_or bs t 0)) None (lt-ltb t 64 low));
-      found = λ n h ok. c.read-slot.ensures.value ∙ slot_found n m t bs h ok;
+      value = c.read_slot.ensures.value ∙ sym (cond-true (ltb t 64) (slot_of m (get_or bs t 0)) None (lt-ltb t 64 low));
+      found = λ n h ok. c.read_slot.ensures.value ∙ slot_found n m t bs h ok;
     }

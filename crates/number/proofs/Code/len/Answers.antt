@@ -5,14 +5,14 @@ use Rattle.number.proofs.Coding.{with_some}
 use Rattle.number.proofs.Numbers.{leb_short}
 use Rattle.number.proofs.Code.len.Goals as goal
 
-pub overflow-add-result : goal.overflow-add-result
-overflow-add-result c = omega (arith, leb_short c.numbers-first.result.0)
+pub overflow_add-result : goal.overflow_add-result
+overflow_add-result c = omega (arith, leb_short c.numbers-first.result.0)
 
-pub overflow-add-result-in-Some : goal.overflow-add-result-in-Some
-overflow-add-result-in-Some c = omega (arith, leb_short c.numbers-first.result.0, leb_short c.in-Some.second)
+pub overflow_add-result-in-Some : goal.overflow_add-result-in-Some
+overflow_add-result-in-Some c = omega (arith, leb_short c.numbers-first.result.0, leb_short c.in-Some.second)
 
-pub overflow-add-result-in-None : goal.overflow-add-result-in-None
-overflow-add-result-in-None c = omega (arith, leb_short c.numbers-first.result.0)
+pub overflow_add-result-in-None : goal.overflow_add-result-in-None
+overflow_add-result-in-None c = omega (arith, leb_short c.numbers-first.result.0)
 
 pub returns-in-Some : goal.returns-in-Some
 returns-in-Some c =

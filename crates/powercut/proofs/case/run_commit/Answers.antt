@@ -6,6 +6,6 @@ returns g c =
     record {
       stays = λ w. c.survive.ensures.stays (c.prepare.ensures.stays w);
       ended = λ w.
-          let o = open_group (g.S.Store.means c.prepare.new.store).stage (c.in-ok-token.ensures.opened w) in
-          (c.in-ok-answer.ensures.survived (c.prepare.ensures.stays w) o.0 o.1 o.2).back;
+          let o = open_group (g.S.Store.means c.prepare.new.store).stage (c.in_ok-token.ensures.opened w) in
+          (c.in_ok-answer.ensures.survived (c.prepare.ensures.stays w) o.0 o.1 o.2).back;
     }

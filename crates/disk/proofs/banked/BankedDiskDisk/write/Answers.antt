@@ -6,13 +6,13 @@ use Rattle.disk.specs.Blocks.{over}
 use Rattle.disk.proofs.Calls.{spent_within, answer_is, written_is}
 use Rattle.disk.proofs.banked.BankedDiskDisk.write.Goals as goal
 
-pub returns-in-err-spend : goal.returns-in-err-spend
-returns-in-err-spend c =
-    let p = err_from_is_err_and c.from-residual.result c.from-residual.ensures.1 in
+pub returns-in_err-spend : goal.returns-in_err-spend
+returns-in_err-spend c =
+    let p = err_from_is_err_and c.from_residual.result c.from_residual.ensures.1 in
     let d = c.args.self.now in
     let b = banks_of d.half (vec_items d.first) (vec_items d.second) in
     let n = length_banks d.half (vec_items d.first) (vec_items d.second) in
-    let e = c.in-err-spend.ensures in
+    let e = c.in_err-spend.ensures in
     record {
       answer = p.1 ∙ ap Err p.2 ∙ e.answer ∙ sym (answer_is c.args.n (2 * d.half) d.supply.charge d.supply.powered b n);
       after = sym (written_is c.args.n (2 * d.half) d.supply.charge d.supply.powered b n c.args.v.now _ _ _ e.answer e.charge e.powered);

@@ -3,13 +3,7 @@ use Rattle.disk.specs.Layout.{blocks_of}
 use Rattle.disk.specs.Sizes.{count_refusal}
 use Rattle.disk.specs.Blocks.{blocks_replicate}
 use Rattle.disk.proofs.Calls.{none_from_ok}
-use Rattle.disk.proofs.Counts.{counted}
 use Rattle.disk.proofs.plain.PlainDisk.new.Goals as goal
-
-pub invariant-of-result : goal.invariant-of-result
-invariant-of-result c =
-    let h = counted c.args.blocks (none_from_ok (count_refusal c.args.blocks) c.in-default.ensures) in
-    (c.in-Ok.ensures.made.1, (h.0, (h.1, tt)))
 
 pub returns-in-Ok : goal.returns-in-Ok
 returns-in-Ok c =

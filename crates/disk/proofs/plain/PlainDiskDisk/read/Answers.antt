@@ -6,13 +6,13 @@ use Rattle.disk.specs.Blocks.{length_blocks, getD_blocks}
 use Rattle.disk.proofs.Calls.{bar_is, reached_within, filled_free, filled_barred}
 use Rattle.disk.proofs.plain.PlainDiskDisk.read.Goals as goal
 
-pub returns-in-err-admit : goal.returns-in-err-admit
-returns-in-err-admit c =
-    let p = err_from_is_err_and c.from-residual.result c.from-residual.ensures.1 in
+pub returns-in_err-admit : goal.returns-in_err-admit
+returns-in_err-admit c =
+    let p = err_from_is_err_and c.from_residual.result c.from_residual.ensures.1 in
     let d = c.args.self.now in
     let b = blocks_of d.count (vec_items d.memory) in
     let n = length_blocks d.count (vec_items d.memory) in
-    let e = c.in-err-admit.ensures in
+    let e = c.in_err-admit.ensures in
     record {
       answer = p.1 ∙ ap Err p.2 ∙ e ∙ ap answer (sym (bar_is c.args.n d.count d.supply.charge d.supply.powered b n));
       buffer = sym (filled_barred c.args.n d.count d.supply.charge d.supply.powered b n c.args.out.now _ e);

@@ -12,12 +12,12 @@ use Rattle.journal.specs.Meaning.{group_of, meaning, wholly}
 use Rattle.journal.specs.Stages.{refused_phase, first_get, answer_ok, live_on, get_granted, get_beyond, get_filled, got_block, got_page}
 use Rattle.journal.proofs.calls.JournalStore.get.Goals as goal
 
-pub returns-in-err-check-phase : goal.returns-in-err-check-phase
-returns-in-err-check-phase g c =
+pub returns-in_err-check_phase : goal.returns-in_err-check_phase
+returns-in_err-check_phase g c =
     let j = c.args.self.now in
     let d = g.D.Disk.means j.disk in
-    let r = err_from_is_err_and c.from-residual.result c.from-residual.ensures.1 in
-    let said = c.in-err-check-phase.ensures ∙ ap (λ x. answer (phase_bar needs.Live x 1)) c.standing.ensures in
+    let r = err_from_is_err_and c.from_residual.result c.from_residual.ensures.1 in
+    let said = c.in_err-check_phase.ensures ∙ ap (λ x. answer (phase_bar needs.Live x 1)) c.standing.ensures in
     record {
       outcome = λ w. rw (r.1, r.2) (refused_phase d.powered d.blocks j.mode (group_of j) j.puts (call.get c.args.n) needs.Live _ (first_get _ _ _) said);
       buffer = λ w. rw r.1 refl;
@@ -27,7 +27,7 @@ pub returns-then-n-cells : goal.returns-then-n-cells
 returns-then-n-cells g c =
     let j = c.args.self.now in
     let d = g.D.Disk.means j.disk in
-    let live = answer_ok _ _ (c.in-ok-check-phase.ensures ∙ ap (λ x. answer (phase_bar needs.Live x 1)) c.standing.ensures) in
+    let live = answer_ok _ _ (c.in_ok-check_phase.ensures ∙ ap (λ x. answer (phase_bar needs.Live x 1)) c.standing.ensures) in
     let h : cells_of d.blocks ≤ c.args.n = omega (arith, c.cells.ensures, c.if-n-cells.true) in
     let why = get_beyond d.powered d.blocks j.mode (group_of j) j.puts c.args.n live h in
     record {
@@ -40,7 +40,7 @@ returns-in-Some g c =
     let j = c.args.self.now in
     let d = g.D.Disk.means j.disk in
     let f = g.met.D.Disk.formed j.disk in
-    let live = answer_ok _ _ (c.in-ok-check-phase.ensures ∙ ap (λ x. answer (phase_bar needs.Live x 1)) c.standing.ensures) in
+    let live = answer_ok _ _ (c.in_ok-check_phase.ensures ∙ ap (λ x. answer (phase_bar needs.Live x 1)) c.standing.ensures) in
     let h : c.args.n < cells_of d.blocks = omega (arith, c.cells.ensures, c.if-n-cells.false) in
     record {
       outcome = λ w. get_granted d.powered d.blocks j.mode (group_of j) j.puts c.args.n live h;
@@ -53,7 +53,7 @@ returns-in-None g c =
     let n = c.args.n in
     let d = g.D.Disk.means j.disk in
     let f = g.met.D.Disk.formed j.disk in
-    let live = answer_ok _ _ (c.in-ok-check-phase.ensures ∙ ap (λ x. answer (phase_bar needs.Live x 1)) c.standing.ensures) in
+    let live = answer_ok _ _ (c.in_ok-check_phase.ensures ∙ ap (λ x. answer (phase_bar needs.Live x 1)) c.standing.ensures) in
     let h : n < cells_of d.blocks = omega (arith, c.cells.ensures, c.if-n-cells.false) in
     let on = live_on d.powered d.blocks j.mode (group_of j) j.puts live in
     let got = read_done (7 + n) d _ c.read.new.out c.read.result on (omega (arith, f.least)) c.read.ensures.answer c.read.ensures.buffer in

@@ -13,12 +13,12 @@ use Rattle.journal.specs.Meaning.{group_of, meaning, wholly}
 use Rattle.journal.specs.Stages.{refused_phase, first_put, answer_ok, stands_open, opened_at, put_beyond, put_full, put_refused, put_call}
 use Rattle.journal.proofs.calls.JournalStore.put.Goals as goal
 
-pub returns-in-err-check-phase : goal.returns-in-err-check-phase
-returns-in-err-check-phase g c =
+pub returns-in_err-check_phase : goal.returns-in_err-check_phase
+returns-in_err-check_phase g c =
     let j = c.args.self.now in
     let d = g.D.Disk.means j.disk in
-    let r = err_from_is_err_and c.from-residual.result c.from-residual.ensures.1 in
-    let said = c.in-err-check-phase.ensures ∙ ap (λ x. answer (phase_bar needs.Open x 1)) c.standing.ensures in
+    let r = err_from_is_err_and c.from_residual.result c.from_residual.ensures.1 in
+    let said = c.in_err-check_phase.ensures ∙ ap (λ x. answer (phase_bar needs.Open x 1)) c.standing.ensures in
     record {
       outcome = λ w. rw (r.1, r.2) (refused_phase d.powered d.blocks j.mode (group_of j) j.puts (call.put c.args.n c.args.v.now) needs.Open _ (first_put _ _ _ _) said);
       stays = λ w. w;
@@ -29,7 +29,7 @@ pub returns-then-n-cells : goal.returns-then-n-cells
 returns-then-n-cells g c =
     let j = c.args.self.now in
     let d = g.D.Disk.means j.disk in
-    let ok = stands_open d.blocks (group_of j) j.puts d.powered j.mode (answer_ok _ _ (c.in-ok-check-phase.ensures ∙ ap (λ x. answer (phase_bar needs.Open x 1)) c.standing.ensures)) in
+    let ok = stands_open d.blocks (group_of j) j.puts d.powered j.mode (answer_ok _ _ (c.in_ok-check_phase.ensures ∙ ap (λ x. answer (phase_bar needs.Open x 1)) c.standing.ensures)) in
     let h : cells_of d.blocks ≤ c.args.n = omega (arith, c.cells.ensures, c.if-n-cells.true) in
     let why = put_beyond d.blocks (group_of j) j.puts c.args.n c.args.v.now h in
     record {
@@ -42,7 +42,7 @@ pub returns-then-self-ge-LIMIT : goal.returns-then-self-ge-LIMIT
 returns-then-self-ge-LIMIT g c =
     let j = c.args.self.now in
     let d = g.D.Disk.means j.disk in
-    let ok = stands_open d.blocks (group_of j) j.puts d.powered j.mode (answer_ok _ _ (c.in-ok-check-phase.ensures ∙ ap (λ x. answer (phase_bar needs.Open x 1)) c.standing.ensures)) in
+    let ok = stands_open d.blocks (group_of j) j.puts d.powered j.mode (answer_ok _ _ (c.in_ok-check_phase.ensures ∙ ap (λ x. answer (phase_bar needs.Open x 1)) c.standing.ensures)) in
     let h : c.args.n < cells_of d.blocks = omega (arith, c.cells.ensures, c.if-n-cells.false) in
     let why = put_full d.blocks (group_of j) j.puts c.args.n c.args.v.now h (omega arith) in
     record {
@@ -55,7 +55,7 @@ pub returns : goal.returns
 returns g c =
     let j = c.args.self.now in
     let d = g.D.Disk.means j.disk in
-    let ok = stands_open d.blocks (group_of j) j.puts d.powered j.mode (answer_ok _ _ (c.in-ok-check-phase.ensures ∙ ap (λ x. answer (phase_bar needs.Open x 1)) c.standing.ensures)) in
+    let ok = stands_open d.blocks (group_of j) j.puts d.powered j.mode (answer_ok _ _ (c.in_ok-check_phase.ensures ∙ ap (λ x. answer (phase_bar needs.Open x 1)) c.standing.ensures)) in
     let h : c.args.n < cells_of d.blocks = omega (arith, c.cells.ensures, c.if-n-cells.false) in
     let ws = group_of j in
     let pages = j.group.pages in

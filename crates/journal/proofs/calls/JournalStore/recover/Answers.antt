@@ -12,12 +12,12 @@ use Rattle.journal.specs.Stages.{refused_phase, first_recover, answer_ok, answer
 use Rattle.journal.proofs.Commits.{recover_call, recover_barred}
 use Rattle.journal.proofs.calls.JournalStore.recover.Goals as goal
 
-pub returns-in-err-check-phase : goal.returns-in-err-check-phase
-returns-in-err-check-phase g c =
+pub returns-in_err-check_phase : goal.returns-in_err-check_phase
+returns-in_err-check_phase g c =
     let j = c.args.self.now in
     let d = g.D.Disk.means j.disk in
-    let r = err_from_is_err_and c.from-residual.result c.from-residual.ensures.1 in
-    let said = c.in-err-check-phase.ensures ∙ ap (λ x. answer (phase_bar needs.Due x 1)) c.standing.ensures in
+    let r = err_from_is_err_and c.from_residual.result c.from_residual.ensures.1 in
+    let said = c.in_err-check_phase.ensures ∙ ap (λ x. answer (phase_bar needs.Due x 1)) c.standing.ensures in
     record {
       outcome = λ w. rw (r.1, r.2) (refused_phase d.powered d.blocks j.mode (group_of j) j.puts call.recover needs.Due _ (first_recover _ _) said);
       stays = λ w. w;
@@ -25,17 +25,17 @@ returns-in-err-check-phase g c =
       exact = exactly (cells_of d.blocks) (omega (arith, (g.met.D.Disk.formed j.disk).most));
     }
 
-pub returns-in-err-restore : goal.returns-in-err-restore
-returns-in-err-restore g c =
+pub returns-in_err-restore : goal.returns-in_err-restore
+returns-in_err-restore g c =
     let j = c.args.self.now in
     let d = g.D.Disk.means j.disk in
     let f = g.met.D.Disk.formed j.disk in
     let after = g.D.Disk.means c.restore.new.disk in
-    let ok = stands_due d.blocks (group_of j) j.puts d.powered j.mode (answer_ok _ _ (c.in-ok-check-phase.ensures ∙ ap (λ x. answer (phase_bar needs.Due x 1)) c.standing.ensures)) in
-    let e = c.in-err-restore.field-0.0 in
-    let b = sym c.in-err-restore.was ∙ c.restore.ensures.answer ok.lit in
+    let ok = stands_due d.blocks (group_of j) j.puts d.powered j.mode (answer_ok _ _ (c.in_ok-check_phase.ensures ∙ ap (λ x. answer (phase_bar needs.Due x 1)) c.standing.ensures)) in
+    let e = c.in_err-restore.field-0.0 in
+    let b = sym c.in_err-restore.was ∙ c.restore.ensures.answer ok.lit in
     let k = recover_call d d.powered j.mode (group_of j) (entries (vec_items c.restore.new.group.pages)) j.puts after (Err e) refl f ok (c.restore.ensures.after ok.lit) b in
-    let r = err_from_is_err_and c.from-residual-in-err-restore.result c.from-residual-in-err-restore.ensures.1 in
+    let r = err_from_is_err_and c.from_residual-in_err-restore.result c.from_residual-in_err-restore.ensures.1 in
     record {
       outcome = λ w. rw (r.1, r.2) k.0.outcome;
       stays = λ w. k.0.stays;
@@ -49,8 +49,8 @@ returns g c =
     let d = g.D.Disk.means j.disk in
     let f = g.met.D.Disk.formed j.disk in
     let after = g.D.Disk.means c.restore.new.disk in
-    let ok = stands_due d.blocks (group_of j) j.puts d.powered j.mode (answer_ok _ _ (c.in-ok-check-phase.ensures ∙ ap (λ x. answer (phase_bar needs.Due x 1)) c.standing.ensures)) in
-    let b = sym c.in-ok-restore.was ∙ c.restore.ensures.answer ok.lit in
+    let ok = stands_due d.blocks (group_of j) j.puts d.powered j.mode (answer_ok _ _ (c.in_ok-check_phase.ensures ∙ ap (λ x. answer (phase_bar needs.Due x 1)) c.standing.ensures)) in
+    let b = sym c.in_ok-restore.was ∙ c.restore.ensures.answer ok.lit in
     let k = recover_call d d.powered j.mode (group_of j) (entries (vec_items c.restore.new.group.pages)) j.puts after (Ok tt) refl f ok (c.restore.ensures.after ok.lit) b in
     record {
       outcome = λ w. k.0.outcome;

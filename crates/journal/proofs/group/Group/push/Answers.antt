@@ -5,4 +5,4 @@ use Rattle.journal.proofs.Writing.{names_entries_append}
 use Rattle.journal.proofs.group.Group.push.Goals as goal
 
 pub returns : goal.returns
-returns c = record { names = ap (λ l. names (entries l)) c.push-reserved.ensures.items ∙ names_entries_append (vec_items c.args.self.now.pages) _; len = c.push-reserved.ensures.len }
+returns c = record { names = ap (λ l. names (entries l)) c.push_reserved.ensures.items ∙ names_entries_append (vec_items c.args.self.now.pages) _; len = c.push_reserved.ensures.len }

@@ -4,5 +4,5 @@ use Rattle.level.proofs.records.RecordPlaceFill.fill.Goals as goal
 
 pub returns : goal.returns
 returns c =
-    record_written c.args.self.now.0 c.fill.new.self c.write-code.new.out c.write-code.result
-    (c.fill.ensures.after (λ y e. e) ∙ ap (λ n. replicate n 0) c.requires) c.write-code.ensures
+    record_written c.args.self.now.0 c.fill.new.self c.write_code.new.out c.write_code.result
+    (c.fill.ensures.after (λ y e. e) ∙ ap (λ n. replicate n 0) c.requires) c.write_code.ensures
