@@ -23,7 +23,7 @@ impl<D: Disk> Journal<D> {
     // A journal over that disk, for which recovery is due. Where there is no memory for its group, the disk comes back.
     pub fn new(heap: Global, disk: D) -> Result<Journal<D>, D>
         ensures made { MatchResult result (λ j. (j.disk ≡ disk) × (j.mode ≡ Due)) (λ d. d ≡ disk) }
-        ensures whole { IfOk result (λ j. wholly means j) }
+        ensures whole { IfOk result (λ j. wholly D.means j) }
     {
         match Group::new(heap) {
             Ok(group) => Ok(Journal {
@@ -57,7 +57,7 @@ impl<D: Disk> Journal<D> {
     }
 
     fn cells(&self) -> u32
-        ensures { result ≡ cells_of (means self.now.disk).blocks }
+        ensures { result ≡ cells_of (D.means self.now.disk).blocks }
     {
         self.disk.count() - FIRST_PAGE
     }
@@ -74,7 +74,7 @@ impl<D: Disk> Journal<D> {
 
     // The disk itself knows whether it is dark.
     fn standing(&self) -> Phase
-        ensures { result ≡ phase_of (meaning means self.now).stage }
+        ensures { result ≡ phase_of (meaning D.means self.now).stage }
     {
         match (self.disk.is_powered(), self.mode) {
             (false, _) => Phase::Dark,
@@ -109,9 +109,9 @@ impl<D: Disk> Store for Journal<D> {
     }
 
     fn begin(&mut self) -> Result<Token, Refusal>
-        ensures outcome { wholly means self.old → Outcome call.begin (meaning means self.old) result (meaning means self.new) }
-        ensures stays { wholly means self.old → wholly means self.new }
-        ensures disk { means self.new.disk ≡ means self.old.disk }
+        ensures outcome { wholly D.means self.old → Outcome call.begin (meaning D.means self.old) result (meaning D.means self.new) }
+        ensures stays { wholly D.means self.old → wholly D.means self.new }
+        ensures disk { D.means self.new.disk ≡ D.means self.old.disk }
     {
         check_phase(self.standing(), Needs::Idle, LAYER)?;
         self.group.clear();
@@ -135,9 +135,9 @@ impl<D: Disk> Store for Journal<D> {
     }
 
     fn put(&mut self, n: u32, v: &[u8; 256]) -> Result<(), Refusal>
-        ensures outcome { wholly means self.old → Outcome (call.put n v.now) (meaning means self.old) result (meaning means self.new) }
-        ensures stays { wholly means self.old → wholly means self.new }
-        ensures disk { means self.new.disk ≡ means self.old.disk }
+        ensures outcome { wholly D.means self.old → Outcome (call.put n v.now) (meaning D.means self.old) result (meaning D.means self.new) }
+        ensures stays { wholly D.means self.old → wholly D.means self.new }
+        ensures disk { D.means self.new.disk ≡ D.means self.old.disk }
     {
         check_phase(self.standing(), Needs::Open, LAYER)?;
         if n >= self.cells() {
@@ -153,10 +153,10 @@ impl<D: Disk> Store for Journal<D> {
     }
 
     fn commit(&mut self, token: Token) -> Result<(), Refusal>
-        ensures outcome { wholly means self.old → Outcome call.commit (meaning means self.old) result (meaning means self.new) }
-        ensures stays { wholly means self.old → wholly means self.new }
-        ensures disk { means self.new.disk ≡ committed (means self.old.disk).powered self.old.mode (group_of self.old) (means self.old.disk) }
-        ensures by_charge { wholly means self.old → Lawfully (means self.old.disk).powered self.old.mode (group_of self.old) (means self.old.disk) result (means self.new.disk) }
+        ensures outcome { wholly D.means self.old → Outcome call.commit (meaning D.means self.old) result (meaning D.means self.new) }
+        ensures stays { wholly D.means self.old → wholly D.means self.new }
+        ensures disk { D.means self.new.disk ≡ committed (D.means self.old.disk).powered self.old.mode (group_of self.old) (D.means self.old.disk) }
+        ensures by_charge { wholly D.means self.old → Lawfully (D.means self.old.disk).powered self.old.mode (group_of self.old) (D.means self.old.disk) result (D.means self.new.disk) }
     {
         token.retire();
         check_phase(self.standing(), Needs::Open, LAYER)?;
@@ -166,9 +166,9 @@ impl<D: Disk> Store for Journal<D> {
     }
 
     fn abort(&mut self, token: Token) -> Result<(), Refusal>
-        ensures outcome { wholly means self.old → Outcome call.abort (meaning means self.old) result (meaning means self.new) }
-        ensures stays { wholly means self.old → wholly means self.new }
-        ensures disk { means self.new.disk ≡ means self.old.disk }
+        ensures outcome { wholly D.means self.old → Outcome call.abort (meaning D.means self.old) result (meaning D.means self.new) }
+        ensures stays { wholly D.means self.old → wholly D.means self.new }
+        ensures disk { D.means self.new.disk ≡ D.means self.old.disk }
     {
         token.retire();
         check_phase(self.standing(), Needs::Open, LAYER)?;
@@ -177,19 +177,19 @@ impl<D: Disk> Store for Journal<D> {
     }
 
     fn power(&mut self, charge: u32)
-        ensures outcome { wholly means self.old → meaning means self.new ≡ next (call.power charge) (meaning means self.old) }
-        ensures stays { wholly means self.old → wholly means self.new }
-        ensures disk { means self.new.disk ≡ powered_up charge (means self.old.disk) }
+        ensures outcome { wholly D.means self.old → meaning D.means self.new ≡ next (call.power charge) (meaning D.means self.old) }
+        ensures stays { wholly D.means self.old → wholly D.means self.new }
+        ensures disk { D.means self.new.disk ≡ powered_up charge (D.means self.old.disk) }
     {
         self.disk.power(charge);
         self.mode = Mode::Due;
     }
 
     fn recover(&mut self) -> Result<(), Refusal>
-        ensures outcome { wholly means self.old → Outcome call.recover (meaning means self.old) result (meaning means self.new) }
-        ensures stays { wholly means self.old → wholly means self.new }
-        ensures disk { means self.new.disk ≡ recovered (means self.old.disk).powered self.old.mode (means self.old.disk) }
-        ensures exact { Exactly (cells_of (means self.old.disk).blocks) }
+        ensures outcome { wholly D.means self.old → Outcome call.recover (meaning D.means self.old) result (meaning D.means self.new) }
+        ensures stays { wholly D.means self.old → wholly D.means self.new }
+        ensures disk { D.means self.new.disk ≡ recovered (D.means self.old.disk).powered self.old.mode (D.means self.old.disk) }
+        ensures exact { Exactly (cells_of (D.means self.old.disk).blocks) }
     {
         check_phase(self.standing(), Needs::Due, LAYER)?;
         restore(&mut self.disk, &mut self.group)?;

@@ -14,7 +14,7 @@ use refusal::{Reason, Refusal};
 
 // Reads the frames into the group that names their pages.
 fn load_frames<D: Disk>(disk: &D, group: &mut Group) -> Result<(), Refusal>
-    ensures { (means disk.now).powered ≡ true → (result ≡ Ok tt) × (entries group.new.pages.items ≡ framed 0 (names (entries group.old.pages.items)) (means disk.now).blocks) }
+    ensures { (D.means disk.now).powered ≡ true → (result ≡ Ok tt) × (entries group.new.pages.items ≡ framed 0 (names (entries group.old.pages.items)) (D.means disk.now).blocks) }
 {
     for turn in 0..group.pages.len() {
         disk.read(1 + turn as u32, &mut group.pages[turn].bytes)?;
@@ -24,8 +24,8 @@ fn load_frames<D: Disk>(disk: &D, group: &mut Group) -> Result<(), Refusal>
 
 // Finishes the commit that power cut, if the record names any page.
 pub fn restore<D: Disk>(disk: &mut D, group: &mut Group) -> Result<(), Refusal>
-    ensures after { (means disk.old).powered ≡ true → means disk.new ≡ ran (recover_writes (naming (means disk.old).blocks) (means disk.old).blocks) (means disk.old) }
-    ensures answer { (means disk.old).powered ≡ true → result ≡ recover_answer (naming (means disk.old).blocks) (means disk.old) }
+    ensures after { (D.means disk.old).powered ≡ true → D.means disk.new ≡ ran (recover_writes (naming (D.means disk.old).blocks) (D.means disk.old).blocks) (D.means disk.old) }
+    ensures answer { (D.means disk.old).powered ≡ true → result ≡ recover_answer (naming (D.means disk.old).blocks) (D.means disk.old) }
 {
     let mut block = [0; 256];
     disk.read(0, &mut block)?;

@@ -51,8 +51,8 @@ fn block(side: Side, turn: usize, page: u16) -> u32
 
 fn write_pages<D: Disk>(disk: &mut D, side: Side, pages: &[Pending]) -> Result<(), Refusal>
     requires { length pages.now ≤ 6 }
-    ensures after { means disk.new ≡ ran (writes_to side 0 (entries pages.now)) (means disk.old) }
-    ensures answer { result ≡ ran_answer (writes_to side 0 (entries pages.now)) (means disk.old) }
+    ensures after { D.means disk.new ≡ ran (writes_to side 0 (entries pages.now)) (D.means disk.old) }
+    ensures answer { result ≡ ran_answer (writes_to side 0 (entries pages.now)) (D.means disk.old) }
 {
     for (turn, p) in pages.iter().enumerate() {
         disk.write(block(side, turn, p.page), &p.bytes)?;
@@ -62,16 +62,16 @@ fn write_pages<D: Disk>(disk: &mut D, side: Side, pages: &[Pending]) -> Result<(
 
 fn write_record<D: Disk>(disk: &mut D, pages: &[Pending]) -> Result<(), Refusal>
     requires { length pages.now ≤ 6 }
-    ensures after { means disk.new ≡ ran ((0, record_of (names (entries pages.now))) ∷ []) (means disk.old) }
-    ensures answer { result ≡ ran_answer ((0, record_of (names (entries pages.now))) ∷ []) (means disk.old) }
+    ensures after { D.means disk.new ≡ ran ((0, record_of (names (entries pages.now))) ∷ []) (D.means disk.old) }
+    ensures answer { result ≡ ran_answer ((0, record_of (names (entries pages.now))) ∷ []) (D.means disk.old) }
 {
     disk.write(0, &commit_record(pages))
 }
 
 fn write_part<D: Disk>(disk: &mut D, part: Part, pages: &[Pending]) -> Result<(), Refusal>
     requires { length pages.now ≤ 6 }
-    ensures after { means disk.new ≡ ran (part_writes part (entries pages.now)) (means disk.old) }
-    ensures answer { result ≡ ran_answer (part_writes part (entries pages.now)) (means disk.old) }
+    ensures after { D.means disk.new ≡ ran (part_writes part (entries pages.now)) (D.means disk.old) }
+    ensures answer { result ≡ ran_answer (part_writes part (entries pages.now)) (D.means disk.old) }
 {
     match part {
         Part::Frames => write_pages(disk, Side::Frames, pages),
@@ -85,8 +85,8 @@ fn write_part<D: Disk>(disk: &mut D, part: Part, pages: &[Pending]) -> Result<()
 pub fn write_parts<D: Disk>(disk: &mut D, first: usize, pages: &[Pending]) -> Result<(), Refusal>
     requires few { length pages.now ≤ 6 }
     requires step { first ≤ 4 }
-    ensures after { means disk.new ≡ ran (writes_from first (entries pages.now)) (means disk.old) }
-    ensures answer { result ≡ ran_answer (writes_from first (entries pages.now)) (means disk.old) }
+    ensures after { D.means disk.new ≡ ran (writes_from first (entries pages.now)) (D.means disk.old) }
+    ensures answer { result ≡ ran_answer (writes_from first (entries pages.now)) (D.means disk.old) }
 {
     if pages.is_empty() {
         return Ok(());

@@ -64,7 +64,7 @@ fn copy_place(cell: &[u8; 256], start: usize, out: &mut [u8; 64])
 // The value writes into the cell itself: its part of the buffer is lent on.
 fn fill_place<C: Fill>(cell: &mut [u8; 256], start: usize, content: &C)
     requires { start ≤ 192 }
-    ensures { cell.new ≡ replaced start (bytes content.now) cell.old }
+    ensures { cell.new ≡ replaced start (C.bytes content.now) cell.old }
 {
     content.fill(&mut cell[start..start + 64]);
 }
@@ -78,16 +78,16 @@ fn places_of(shape: Shape) -> u32
 
 // How many places a store has.
 pub fn count<S: Store>(s: &S) -> u32
-    ensures { whole s.now → result ≡ length (shown (means s.now)) }
+    ensures { S.whole s.now → result ≡ length (shown (S.means s.now)) }
 {
     places_of(s.shape())
 }
 
 // Fills `out` with place `p`; where the store refuses the read, `out` stays as it was.
 pub fn read_place<S: Store>(s: &S, p: u32, out: &mut [u8; 64]) -> Result<(), Refusal>
-    ensures answers { whole s.now → result ≡ answer (bar (get (cell_of (means s.now).shape.size p)) (means s.now)) }
-    ensures buffer { whole s.now → Filled result (slice_index_or (places (means s.now).shape.size (working (means s.now))) p []) out.old out.new }
-    ensures granted { whole s.now → (means s.now).stage ≡ idle → p < length (shown (means s.now)) → (result ≡ Ok tt) × (out.new ≡ slice_index_or (shown (means s.now)) p []) }
+    ensures answers { S.whole s.now → result ≡ answer (bar (get (cell_of (S.means s.now).shape.size p)) (S.means s.now)) }
+    ensures buffer { S.whole s.now → Filled result (slice_index_or (places (S.means s.now).shape.size (working (S.means s.now))) p []) out.old out.new }
+    ensures granted { S.whole s.now → (S.means s.now).stage ≡ idle → p < length (shown (S.means s.now)) → (result ≡ Ok tt) × (out.new ≡ slice_index_or (shown (S.means s.now)) p []) }
 {
     let spot = locate(s.shape().size, p);
     let mut cell = [0u8; 256];
@@ -98,8 +98,8 @@ pub fn read_place<S: Store>(s: &S, p: u32, out: &mut [u8; 64]) -> Result<(), Ref
 
 // One write of an open group: its cell is read, changed and put back.
 fn put_place<S: Store, C: Fill>(s: &mut S, write: &PlaceWrite<C>) -> Result<(), Refusal>
-    ensures outcome { (m : Content) (ps : List (List ℕ)) (k : ℕ) → whole s.old → Begun m ps k (means s.old) → write.now.place < length ps → k < m.shape.limit → Tried m (slice_set ps write.now.place (bytes write.now.content)) (k + 1) result (means s.new) }
-    ensures stays { whole s.old → whole s.new }
+    ensures outcome { (m : Content) (ps : List (List ℕ)) (k : ℕ) → S.whole s.old → Begun m ps k (S.means s.old) → write.now.place < length ps → k < m.shape.limit → Tried m (slice_set ps write.now.place (C.bytes write.now.content)) (k + 1) result (S.means s.new) }
+    ensures stays { S.whole s.old → S.whole s.new }
 {
     let spot = locate(s.shape().size, write.place);
     let mut cell = [0u8; 256];
@@ -109,8 +109,8 @@ fn put_place<S: Store, C: Fill>(s: &mut S, write: &PlaceWrite<C>) -> Result<(), 
 }
 
 fn put_all<S: Store, C: Fill>(s: &mut S, writes: &[PlaceWrite<C>]) -> Result<(), Refusal>
-    ensures outcome { (m : Content) → whole s.old → Begun m (shown m) 0 (means s.old) → Inside (length (shown m)) (listed bytes writes.now) → length writes.now ≤ m.shape.limit → Tried m (stored (listed bytes writes.now) (shown m)) (length writes.now) result (means s.new) }
-    ensures stays { whole s.old → whole s.new }
+    ensures outcome { (m : Content) → S.whole s.old → Begun m (shown m) 0 (S.means s.old) → Inside (length (shown m)) (listed C.bytes writes.now) → length writes.now ≤ m.shape.limit → Tried m (stored (listed C.bytes writes.now) (shown m)) (length writes.now) result (S.means s.new) }
+    ensures stays { S.whole s.old → S.whole s.new }
 {
     for write in writes {
         put_place(s, write)?;
@@ -120,8 +120,8 @@ fn put_all<S: Store, C: Fill>(s: &mut S, writes: &[PlaceWrite<C>]) -> Result<(),
 
 // Ends a group by how its puts went.
 fn end_group<S: Store>(s: &mut S, token: Token, tried: Result<(), Refusal>) -> Result<(), Refusal>
-    ensures outcome { whole s.old → Closed tried (means s.old) result (means s.new) }
-    ensures stays { whole s.old → whole s.new }
+    ensures outcome { S.whole s.old → Closed tried (S.means s.old) result (S.means s.new) }
+    ensures stays { S.whole s.old → S.whole s.new }
 {
     match tried {
         Ok(()) => s.commit(token),
@@ -134,9 +134,9 @@ fn end_group<S: Store>(s: &mut S, token: Token, tried: Result<(), Refusal>) -> R
 
 // Writes all places as one group, in order: all of it or, where power goes, all or nothing.
 pub fn write_group<S: Store, C: Fill>(s: &mut S, writes: &[PlaceWrite<C>]) -> Result<(), Refusal>
-    ensures outcome { whole s.old → Ready (listed bytes writes.now) (means s.old) → Ended (stored (listed bytes writes.now) (shown (means s.old))) (means s.old) result (means s.new) }
-    ensures barred { whole s.old → (e : Refusal) → bar begin (means s.old) ≡ Some e → (result ≡ Err e) × (means s.new ≡ means s.old) }
-    ensures stays { whole s.old → whole s.new }
+    ensures outcome { S.whole s.old → Ready (listed C.bytes writes.now) (S.means s.old) → Ended (stored (listed C.bytes writes.now) (shown (S.means s.old))) (S.means s.old) result (S.means s.new) }
+    ensures barred { S.whole s.old → (e : Refusal) → bar begin (S.means s.old) ≡ Some e → (result ≡ Err e) × (S.means s.new ≡ S.means s.old) }
+    ensures stays { S.whole s.old → S.whole s.new }
 {
     let token = s.begin()?;
     let tried = put_all(s, writes);
