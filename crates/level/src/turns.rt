@@ -45,8 +45,8 @@ impl Fill for TablePlace {
 
 // Finds a call's slot: the first checks of every call of a level.
 pub fn find_slot<S: Store>(store: &S, layer: u32, plan: Plan, t: u32) -> Result<Located, Refusal>
-    ensures barred { whole store.now → (e : Refusal) → barred_below layer (means store.now) ≡ Some e → result ≡ Err e }
-    ensures found { whole store.now → (means store.now).stage ≡ idle → 0 < length (shown (means store.now)) → table_ok plan.slots plan.records (table_of (means store.now)) ≡ true → result ≡ located layer plan.slots plan.records t (means store.now) }
+    ensures barred { S.whole store.now → (e : Refusal) → barred_below layer (S.means store.now) ≡ Some e → result ≡ Err e }
+    ensures found { S.whole store.now → (S.means store.now).stage ≡ idle → 0 < length (shown (S.means store.now)) → table_ok plan.slots plan.records (table_of (S.means store.now)) ≡ true → result ≡ located layer plan.slots plan.records t (S.means store.now) }
 {
     check_phase(store.phase(), Needs::Idle, layer)?;
     if t >= u32::from(plan.slots) {
@@ -93,9 +93,9 @@ pub fn change_slot<S: Store>(
     t: u32,
     change: Change,
 ) -> Result<(), Refusal>
-    ensures barred { whole store.old → (e : Refusal) → barred_below layer (means store.old) ≡ Some e → (result ≡ Err e) × (means store.new ≡ means store.old) }
-    ensures turned { whole store.old → (means store.old).stage ≡ idle → 0 < length (shown (means store.old)) → 1 ≤ (means store.old).shape.limit → table_ok plan.slots plan.records (table_of (means store.old)) ≡ true → Turned (changes layer plan.slots plan.records t change (means store.old)) (means store.old) result (means store.new) }
-    ensures stays { whole store.old → whole store.new }
+    ensures barred { S.whole store.old → (e : Refusal) → barred_below layer (S.means store.old) ≡ Some e → (result ≡ Err e) × (S.means store.new ≡ S.means store.old) }
+    ensures turned { S.whole store.old → (S.means store.old).stage ≡ idle → 0 < length (shown (S.means store.old)) → 1 ≤ (S.means store.old).shape.limit → table_ok plan.slots plan.records (table_of (S.means store.old)) ≡ true → Turned (changes layer plan.slots plan.records t change (S.means store.old)) (S.means store.old) result (S.means store.new) }
+    ensures stays { S.whole store.old → S.whole store.new }
 {
     let found = find_slot(store, layer, plan, t)?;
     if !allowed(change, found.slot) {

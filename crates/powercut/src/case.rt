@@ -104,7 +104,7 @@ pub struct Recovery {
 }
 
 // Why the program ends early.
-#[derive(Drop)]
+#[derive(Debug, Drop)]
 pub enum Fault {
     Refused(Refusal),
     NoMemory,
@@ -133,7 +133,7 @@ impl From<io::Error> for Fault {
 }
 
 fn journal_on<D: Disk + Drop>(heap: Global, disk: D) -> Result<Journal<D>, Fault>
-    ensures { IfOk result (λ j. wholly means j) }
+    ensures { IfOk result (λ j. wholly D.means j) }
 {
     match Journal::new(heap, disk) {
         Ok(journal) => Ok(journal),
@@ -143,8 +143,8 @@ fn journal_on<D: Disk + Drop>(heap: Global, disk: D) -> Result<Journal<D>, Fault
 
 // Every page has its first version, those of the case the old one, and the new one is put: its commit is to come, with the charge of the case.
 fn prepare<S: Store>(store: &mut S, case: Case) -> Result<Token, Refusal>
-    ensures stays { whole store.old → whole store.new }
-    ensures opened { whole store.old → OnOk result (phase_of (means store.new).stage ≡ Open) }
+    ensures stays { S.whole store.old → S.whole store.new }
+    ensures opened { S.whole store.old → OnOk result (phase_of (S.means store.new).stage ≡ Open) }
 {
     revive(store, ENOUGH)?;
     write_first(store)?;
@@ -154,8 +154,8 @@ fn prepare<S: Store>(store: &mut S, case: Case) -> Result<Token, Refusal>
 }
 
 fn run_commit<S: Store>(store: &mut S, case: Case) -> Result<End, Fault>
-    ensures stays { whole store.old → whole store.new }
-    ensures ended { whole store.old → OnOk result ((means store.new).stage ≡ idle) }
+    ensures stays { S.whole store.old → S.whole store.new }
+    ensures ended { S.whole store.old → OnOk result ((S.means store.new).stage ≡ idle) }
 {
     let token = prepare(store, case)?;
     let answer = survive(store, token, ENOUGH)?;
@@ -165,8 +165,8 @@ fn run_commit<S: Store>(store: &mut S, case: Case) -> Result<End, Fault>
 
 // Commits and recovers with that charge and, where power cuts the recovery, recovers again with enough. Answers whether it was cut.
 fn recover_twice<S: Store>(store: &mut S, token: Token, charge: u32) -> Result<bool, Refusal>
-    ensures stays { whole store.old → whole store.new }
-    ensures ended { whole store.old → phase_of (means store.old).stage ≡ Open → OnOk result ((means store.new).stage ≡ idle) }
+    ensures stays { S.whole store.old → S.whole store.new }
+    ensures ended { S.whole store.old → phase_of (S.means store.old).stage ≡ Open → OnOk result ((S.means store.new).stage ≡ idle) }
 {
     match survive(store, token, charge) {
         Ok(_) => Ok(false),
@@ -184,8 +184,8 @@ fn recover_twice<S: Store>(store: &mut S, token: Token, charge: u32) -> Result<b
 }
 
 fn run_recovery<S: Store>(store: &mut S, case: Case, charge: u32) -> Result<Recovery, Fault>
-    ensures stays { whole store.old → whole store.new }
-    ensures ended { whole store.old → OnOk result ((means store.new).stage ≡ idle) }
+    ensures stays { S.whole store.old → S.whole store.new }
+    ensures ended { S.whole store.old → OnOk result ((S.means store.new).stage ≡ idle) }
 {
     let token = prepare(store, case)?;
     let cut = recover_twice(store, token, charge)?;

@@ -47,8 +47,8 @@ fn bytes(version: Version, page: u32) -> [u8; 256] {
 }
 
 fn put_all<S: Store>(store: &mut S, pages: &[u32], version: Version) -> Result<(), Refusal>
-    ensures stays { whole store.old → whole store.new }
-    ensures opened { whole store.old → phase_of (means store.old).stage ≡ Open → OnOk result (phase_of (means store.new).stage ≡ Open) }
+    ensures stays { S.whole store.old → S.whole store.new }
+    ensures opened { S.whole store.old → phase_of (S.means store.old).stage ≡ Open → OnOk result (phase_of (S.means store.new).stage ≡ Open) }
 {
     for page in pages {
         store.put(*page, &bytes(version, *page))?;
@@ -62,8 +62,8 @@ pub fn open_group<S: Store>(
     pages: &[u32],
     version: Version,
 ) -> Result<Token, Refusal>
-    ensures stays { whole store.old → whole store.new }
-    ensures opened { whole store.old → OnOk result (phase_of (means store.new).stage ≡ Open) }
+    ensures stays { S.whole store.old → S.whole store.new }
+    ensures opened { S.whole store.old → OnOk result (phase_of (S.means store.new).stage ≡ Open) }
 {
     let token = store.begin()?;
     match put_all(store, pages, version) {
@@ -77,7 +77,7 @@ pub fn open_group<S: Store>(
 
 // Writes that version of each page, by one group.
 pub fn write_group<S: Store>(store: &mut S, pages: &[u32], version: Version) -> Result<(), Refusal>
-    ensures stays { whole store.old → whole store.new }
+    ensures stays { S.whole store.old → S.whole store.new }
 {
     let token = open_group(store, pages, version)?;
     store.commit(token)
@@ -85,7 +85,7 @@ pub fn write_group<S: Store>(store: &mut S, pages: &[u32], version: Version) -> 
 
 // Writes the first version of every page, by a group for each.
 pub fn write_first<S: Store>(store: &mut S) -> Result<(), Refusal>
-    ensures stays { whole store.old → whole store.new }
+    ensures stays { S.whole store.old → S.whole store.new }
 {
     for page in 0..store.shape().cells {
         write_group(store, &[page], Version::First)?;
