@@ -32,8 +32,8 @@ fn perform<S: Store>(
     k: u8,
     op: TallyOp,
 ) -> Result<TallyAnswer, Refusal>
-    ensures acted { whole store.old → Roomy (means store.old) → found.now.table ≡ slice_index_or (shown (means store.old)) 0 [] → found.now.number < 8 → k < 16 → counter_of op < 32 → Acted (performs op found.now.number k (means store.old)) (means store.old) result (means store.new) }
-    ensures stays { whole store.old → whole store.new }
+    ensures acted { S.whole store.old → Roomy (S.means store.old) → found.now.table ≡ slice_index_or (shown (S.means store.old)) 0 [] → found.now.number < 8 → k < 16 → counter_of op < 32 → Acted (performs op found.now.number k (S.means store.old)) (S.means store.old) result (S.means store.new) }
+    ensures stays { S.whole store.old → S.whole store.new }
 {
     match op {
         TallyOp::Add { counter, amount } => {
@@ -51,9 +51,9 @@ pub fn apply_op<S: Store>(
     t: u32,
     op: TallyOp,
 ) -> Result<TallyAnswer, Refusal>
-    ensures barred { whole store.old → (e : Refusal) → barred_below layer (means store.old) ≡ Some e → (result ≡ Err e) × (means store.new ≡ means store.old) }
-    ensures acted { whole store.old → Roomy (means store.old) → table_ok 8 16 (table_of (means store.old)) ≡ true → Acted (apply_act layer t op (means store.old)) (means store.old) result (means store.new) }
-    ensures stays { whole store.old → whole store.new }
+    ensures barred { S.whole store.old → (e : Refusal) → barred_below layer (S.means store.old) ≡ Some e → (result ≡ Err e) × (S.means store.new ≡ S.means store.old) }
+    ensures acted { S.whole store.old → Roomy (S.means store.old) → table_ok 8 16 (table_of (S.means store.old)) ≡ true → Acted (apply_act layer t op (S.means store.old)) (S.means store.old) result (S.means store.new) }
+    ensures stays { S.whole store.old → S.whole store.new }
 {
     let found = find_slot(
         store,
@@ -79,7 +79,7 @@ pub fn apply_op<S: Store>(
 
 // Reads an undo record.
 fn load_undo<S: Store>(store: &S, layer: u32, t: u8, j: u8) -> Result<TallyOp, Refusal>
-    ensures { whole store.now → Roomy (means store.now) → t < 8 → j < 16 → result ≡ loaded layer t j (undo_at (shown (means store.now)) t j) }
+    ensures { S.whole store.now → Roomy (S.means store.now) → t < 8 → j < 16 → result ≡ loaded layer t j (undo_at (shown (S.means store.now)) t j) }
 {
     let place = record_place(16, t, j);
     let mut bytes = [0; 64];
@@ -95,8 +95,8 @@ fn load_undo<S: Store>(store: &S, layer: u32, t: u8, j: u8) -> Result<TallyOp, R
 
 // Takes record `j` of a slot back, its newest.
 fn take_back<S: Store>(store: &mut S, layer: u32, found: &Located, j: u8) -> Result<(), Refusal>
-    ensures turned { whole store.old → Roomy (means store.old) → found.now.table ≡ slice_index_or (shown (means store.old)) 0 [] → found.now.number < 8 → j < 16 → Turned (takes_back layer found.now.number j (means store.old) (loaded layer found.now.number j (undo_at (shown (means store.old)) found.now.number j))) (means store.old) result (means store.new) }
-    ensures stays { whole store.old → whole store.new }
+    ensures turned { S.whole store.old → Roomy (S.means store.old) → found.now.table ≡ slice_index_or (shown (S.means store.old)) 0 [] → found.now.number < 8 → j < 16 → Turned (takes_back layer found.now.number j (S.means store.old) (loaded layer found.now.number j (undo_at (shown (S.means store.old)) found.now.number j))) (S.means store.old) result (S.means store.new) }
+    ensures stays { S.whole store.old → S.whole store.new }
 {
     match load_undo(store, layer, found.number, j) {
         Ok(TallyOp::Add { counter, amount }) => write_undo(store, layer, found, j, counter, amount),
@@ -111,9 +111,9 @@ fn take_back<S: Store>(store: &mut S, layer: u32, found: &Located, j: u8) -> Res
 
 // Applies the newest undo record of a slot and removes it.
 pub fn undo_newest<S: Store>(store: &mut S, layer: u32, t: u32) -> Result<(), Refusal>
-    ensures barred { whole store.old → (e : Refusal) → barred_below layer (means store.old) ≡ Some e → (result ≡ Err e) × (means store.new ≡ means store.old) }
-    ensures turned { whole store.old → Roomy (means store.old) → table_ok 8 16 (table_of (means store.old)) ≡ true → Turned (undo_turn layer t (means store.old)) (means store.old) result (means store.new) }
-    ensures stays { whole store.old → whole store.new }
+    ensures barred { S.whole store.old → (e : Refusal) → barred_below layer (S.means store.old) ≡ Some e → (result ≡ Err e) × (S.means store.new ≡ S.means store.old) }
+    ensures turned { S.whole store.old → Roomy (S.means store.old) → table_ok 8 16 (table_of (S.means store.old)) ≡ true → Turned (undo_turn layer t (S.means store.old)) (S.means store.old) result (S.means store.new) }
+    ensures stays { S.whole store.old → S.whole store.new }
 {
     let found = find_slot(
         store,

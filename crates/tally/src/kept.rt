@@ -28,7 +28,7 @@ impl Fill for TallyContent {
 
 // The place that a counter stands in.
 pub fn load_place<S: Store>(store: &S, counter: u32) -> Result<[u8; 64], Refusal>
-    ensures { whole store.now → (means store.now).stage ≡ idle → 131 ≤ length (shown (means store.now)) → counter < 32 → result ≡ Ok (slice_index_or (shown (means store.now)) (counter_place counter) []) }
+    ensures { S.whole store.now → (S.means store.now).stage ≡ idle → 131 ≤ length (shown (S.means store.now)) → counter < 32 → result ≡ Ok (slice_index_or (shown (S.means store.now)) (counter_place counter) []) }
 {
     let mut bytes = [0; 64];
     read_place(store, 129 + counter / 16, &mut bytes)?;
@@ -36,7 +36,7 @@ pub fn load_place<S: Store>(store: &S, counter: u32) -> Result<[u8; 64], Refusal
 }
 
 pub fn read_value<S: Store>(store: &S, layer: u32, counter: u32) -> Result<u32, Refusal>
-    ensures { whole store.now → Roomy (means store.now) → counter < 32 → result ≡ Ok (value_at (shown (means store.now)) counter) }
+    ensures { S.whole store.now → Roomy (S.means store.now) → counter < 32 → result ≡ Ok (value_at (shown (S.means store.now)) counter) }
 {
     let bytes = load_place(store, counter)?;
     match read_counter(&bytes, (counter % 16) as usize) {
@@ -52,7 +52,7 @@ fn add_amount<S: Store>(
     counter: u32,
     amount: u32,
 ) -> Result<[u8; 64], Refusal>
-    ensures { whole store.now → Roomy (means store.now) → counter < 32 → result ≡ Ok (added (shown (means store.now)) counter amount) }
+    ensures { S.whole store.now → Roomy (S.means store.now) → counter < 32 → result ≡ Ok (added (shown (S.means store.now)) counter amount) }
 {
     let value = read_value(store, layer, counter)?;
     let mut bytes = load_place(store, counter)?;
@@ -69,8 +69,8 @@ pub fn write_add<S: Store>(
     counter: u32,
     amount: u32,
 ) -> Result<(), Refusal>
-    ensures outcome { whole store.old → Roomy (means store.old) → found.now.table ≡ slice_index_or (shown (means store.old)) 0 [] → found.now.number < 8 → k < 16 → counter < 32 → Ended (stored (add_writes (shown (means store.old)) found.now.number k counter amount) (shown (means store.old))) (means store.old) result (means store.new) }
-    ensures stays { whole store.old → whole store.new }
+    ensures outcome { S.whole store.old → Roomy (S.means store.old) → found.now.table ≡ slice_index_or (shown (S.means store.old)) 0 [] → found.now.number < 8 → k < 16 → counter < 32 → Ended (stored (add_writes (shown (S.means store.old)) found.now.number k counter amount) (shown (S.means store.old))) (S.means store.old) result (S.means store.new) }
+    ensures stays { S.whole store.old → S.whole store.new }
 {
     let counters = add_amount(store, layer, counter, amount)?;
     let mut table = found.table;
@@ -111,8 +111,8 @@ pub fn write_undo<S: Store>(
     counter: u32,
     amount: u32,
 ) -> Result<(), Refusal>
-    ensures outcome { whole store.old → Roomy (means store.old) → found.now.table ≡ slice_index_or (shown (means store.old)) 0 [] → found.now.number < 8 → k < 16 → counter < 32 → Ended (stored (undo_writes (shown (means store.old)) found.now.number k counter amount) (shown (means store.old))) (means store.old) result (means store.new) }
-    ensures stays { whole store.old → whole store.new }
+    ensures outcome { S.whole store.old → Roomy (S.means store.old) → found.now.table ≡ slice_index_or (shown (S.means store.old)) 0 [] → found.now.number < 8 → k < 16 → counter < 32 → Ended (stored (undo_writes (shown (S.means store.old)) found.now.number k counter amount) (shown (S.means store.old))) (S.means store.old) result (S.means store.new) }
+    ensures stays { S.whole store.old → S.whole store.new }
 {
     let counters = add_amount(store, layer, counter, amount)?;
     let mut table = found.table;
