@@ -1,9 +1,8 @@
 -- A read and a write, case by case.
-use Rattle.std.proofs.Common.{◌≡◌, ℕ, suc, ◌+◌, ◌-◌, ◌<◌, ◌≤◌, Bool, true, false, cond, eqb, ltb, List, [], ◌∷◌, length, get_or, set, Some, None, Ok, Err, Option, Result, sym, refl, ap, ◌∙◌, arith}
+use Rattle.std.proofs.Common.{◌≡◌, ℕ, ◌<◌, true, false, cond, eqb, List, [], length, get_or, Some, None, Ok, Err, Option, Result, ap, ◌∙◌, arith}
 use Rattle.std.proofs.lemmas.Bool.{lt-ltb, eq-eqb, ne_eqb, cond-true, cond-false}
 use Rattle.refusal.specs.declared.Refusal.{Refusal}
-use Rattle.refusal.specs.declared.Reason.TheVariants.{OutOfRange}
-use Rattle.refusal.specs.Refusals.{refusal, darkened}
+use Rattle.refusal.specs.Refusals.{darkened}
 use Rattle.disk.specs.Device.{Device, bar, answer, filled, written, write_answer, cut, replaced}
 
 -- nothing bars a call on a block of a powered disk

@@ -1,5 +1,5 @@
 -- A journal's commit and recovery as those of a store: from the block writes to the content that stands. Assumes nothing.
-use Rattle.std.proofs.Common.{◌≡◌, ℕ, zero, suc, ◌+◌, ◌-◌, ◌*◌, ◌<◌, ◌≤◌, Bool, true, false, cond, leb, ◌⊎◌, List, [], ◌∷◌, ◌++◌, length, get_or, take, drop, Some, None, Ok, Err, Option, Result, sym, refl, ap, ◌∙◌, subst, inl, inr, ⊎_elim, arith, length-append}
+use Rattle.std.proofs.Common.{◌≡◌, ℕ, ◌+◌, ◌-◌, ◌*◌, ◌<◌, ◌≤◌, Bool, true, false, leb, List, [], ◌∷◌, ◌++◌, length, get_or, take, Some, None, Ok, Err, Option, Result, sym, refl, ap, ◌∙◌, subst, ⊎_elim, arith, length-append}
 use Rattle.std.proofs.lemmas.Bool.{cases_lt, le-leb, lt-leb, cond-true, cond-false}
 use Rattle.refusal.specs.declared.Reason.TheVariants as reason
 use Rattle.refusal.specs.declared.Refusal.{Refusal}
@@ -13,12 +13,12 @@ use Rattle.journal.specs.declared.state.Mode.{Mode}
 use Rattle.journal.specs.declared.state.Mode.TheVariants.{Due, Idle, Open}
 use Rattle.journal.specs.Record.{Different, Below, record_of, blank}
 use Rattle.journal.specs.Layout.{names, framed, cells_of, naming, durable, frame_writes, page_writes, copy_writes, commit_writes, recover_writes}
-use Rattle.journal.specs.Meaning.{content, shape_of, finding_of, Grouped, RecordBlank, Opened, Whole, recover_answer, ByCharge, Lawfully, committed, recovered}
+use Rattle.journal.specs.Meaning.{content, shape_of, finding_of, Grouped, Whole, recover_answer, ByCharge, Lawfully, committed, recovered}
 use Rattle.journal.specs.Stored.{length_stored}
 use Rattle.journal.specs.Stages.{Stands}
 use Rattle.store.specs.declared.Needs.TheVariants as needs
 use Rattle.journal.specs.Records.{different_below, named_are}
-use Rattle.journal.specs.Protocol.{Kept, copied_all, copied_part, commit_old, commit_new, commit_all, length_frames, length_pages, length_framed, names_framed}
+use Rattle.journal.specs.Protocol.{copied_all, copied_part, commit_old, commit_new, commit_all, length_frames, length_pages, names_framed}
 
 -- the blocks written are there
 inside_append : (n : ℕ) (xs ys : List Write) → Inside n xs → Inside n ys → Inside n (xs ++ ys)

@@ -1,5 +1,5 @@
 -- A commit record that can be read is one that could have been written. Assumes nothing.
-use Rattle.std.proofs.Common.{◌≡◌, ℕ, zero, suc, ◌+◌, ◌-◌, ◌^◌, ◌<◌, ◌≤◌, Bool, true, false, cond, not, ◌&&◌, eqb, ltb, leb, ◌⊎◌, List, [], ◌∷◌, ◌++◌, length, replicate, Some, None, Option, sym, refl, ap, ◌∙◌, subst, inl, inr, ⊎_elim, append_assoc, arith, length-append}
+use Rattle.std.proofs.Common.{◌≡◌, ℕ, zero, suc, ◌+◌, ◌-◌, ◌^◌, ◌<◌, ◌≤◌, true, false, not, ◌&&◌, eqb, ltb, leb, List, [], ◌∷◌, ◌++◌, length, replicate, Some, None, Option, sym, refl, ap, ◌∙◌, subst, ⊎_elim, append_assoc, arith, length-append}
 use lib.ListN.{length-replicate}
 use Rattle.std.proofs.lemmas.Bool.{cases_Bool, cases_eq, eq-eqb, ne_eqb, eqb-true, ltb-true, leb-true, cond-true, cond-false, and_parts, not-true, true≢false, both_ways}
 use Rattle.std.specs.List.{AllByRecursion as All}
@@ -8,7 +8,7 @@ use Rattle.number.specs.Leb as number
 use Rattle.number.proofs.Numbers.{from_reading}
 use Rattle.journal.specs.Record.{record_of, member, all_zero, page_next, pages_from, counted, named, Different, Exactly}
 use Rattle.journal.specs.Stored.{member_here}
-use Rattle.journal.specs.Records.{named_back, member_tail, member_last}
+use Rattle.journal.specs.Records.{named_back}
 
 none_some : {X A : Type 0} {a : A} → None ≡ Some a → X
 none_some e = let z : ◌≡◌ {A = ℕ} 0 1 = cc in absurd (omega arith)

@@ -1,7 +1,6 @@
 -- Frames read into the group that names their pages, one at each turn. Assumes nothing.
-use Rattle.std.proofs.Common.{◌≡◌, ℕ, zero, suc, ◌+◌, ◌<◌, ◌≤◌, List, [], ◌∷◌, ◌++◌, length, get_or, take, set, sym, refl, ap, ◌∙◌, subst, add-one, arith, length-set}
+use Rattle.std.proofs.Common.{◌≡◌, ℕ, zero, suc, ◌+◌, ◌<◌, ◌≤◌, List, [], ◌∷◌, ◌++◌, length, get_or, take, set, sym, refl, ap, ◌∙◌, add-one, arith}
 use Rattle.std.proofs.lemmas.List.{take_all, take_more_set}
-use Rattle.disk.specs.Runs.{Write}
 use Rattle.journal.specs.declared.group.Pending.{Pending}
 use Rattle.journal.specs.Layout.{names, framed}
 use Rattle.journal.specs.Groups.{entries}

@@ -1,11 +1,11 @@
 -- What the record read says of the recovery to make. Assumes nothing.
-use Rattle.std.proofs.Common.{◌≡◌, ℕ, ◌+◌, List, [], ◌∷◌, get_or, Some, None, Ok, Err, Option, Result, sym, refl, ap, ◌∙◌}
+use Rattle.std.proofs.Common.{◌≡◌, ℕ, ◌+◌, List, [], ◌∷◌, get_or, Some, None, Err, Option, Result, sym, ap, ◌∙◌}
 use Rattle.journal.proofs.Turns.{last_parts}
 use Rattle.refusal.specs.declared.Refusal.{Refusal}
 use Rattle.refusal.specs.declared.Reason.TheVariants.{Damaged}
 use Rattle.refusal.specs.Refusals.{refusal}
 use Rattle.disk.specs.Device.{Device}
-use Rattle.disk.specs.Runs.{Write, ran, ran_answer}
+use Rattle.disk.specs.Runs.{ran, ran_answer}
 use Rattle.disk.proofs.Runs.{Ran, ran_none}
 use Rattle.journal.specs.Layout.{framed, recover_writes, writes_from}
 use Rattle.journal.specs.Meaning.{recover_answer}

@@ -1,5 +1,5 @@
 -- What recovery finds after each write of a commit and of a recovery. Assumes nothing.
-use Rattle.std.specs.Prelude.{◌≡◌, ℕ, zero, suc, ◌+◌, ◌-◌, ◌^◌, ◌<◌, ◌≤◌, ◌⊎◌, List, [], ◌∷◌, ◌++◌, length, take, drop, Some, None, Option, slice_index_or, slice_set, refl}
+use Rattle.std.specs.Prelude.{◌≡◌, ℕ, zero, suc, ◌+◌, ◌-◌, ◌<◌, ◌≤◌, ◌⊎◌, List, [], ◌∷◌, ◌++◌, length, take, drop, Some, slice_index_or, slice_set, refl}
 use Rattle.std.proofs.Math.Path.{sym, ap}
 use Rattle.std.proofs.Common.{◌∙◌, subst, arith, get_or-set_same}
 use Rattle.std.proofs.Math.Logic.{inl, inr, ⊎_elim}
@@ -8,8 +8,8 @@ use Rattle.std.proofs.Math.Seq.{get_or-set_other, take-append-add}
 use Rattle.std.proofs.lemmas.List.{take_all, drop-set-lt, take-append-le}
 use Rattle.std.proofs.lemmas.Bool.{cases_lt}
 use Rattle.disk.specs.Runs.{Write, stored, Inside}
-use Rattle.journal.specs.Record.{record_of, blank, named, Different, Below}
-use Rattle.journal.specs.Layout.{names, framed, overlaid, cells_of, naming, durable, frame_writes, page_writes, copy_writes, commit_writes}
+use Rattle.journal.specs.Record.{record_of, blank, named, Different}
+use Rattle.journal.specs.Layout.{names, framed, overlaid, cells_of, naming, durable, frame_writes, page_writes, copy_writes}
 use Rattle.journal.specs.Stored.{stored_append, length_stored, Avoids, stored_other, stored_low, absorbed, covered_take, pages_stored, pages_avoid, take_pages, frames_low, frames_avoid, framed_same, framed_written}
 use Rattle.journal.specs.Records.{named_back, named_are}
 

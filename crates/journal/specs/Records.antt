@@ -3,11 +3,11 @@ use Rattle.std.specs.Prelude.{◌≡◌, ℕ, zero, suc, ◌+◌, ◌-◌, ◌^�
 use Rattle.std.proofs.Math.Path.{refl, ap, subst}
 use Rattle.std.proofs.Common.{sym, ◌∙◌, append_assoc, inl, inr, arith, length-append}
 use Rattle.std.proofs.Math.Logic.{⊎_elim}
-use Rattle.std.proofs.lemmas.Bool.{cases_eq, cases_Bool, eq-eqb, ne_eqb, eqb-false, lt-ltb, le-ltb, ltb-true, le-leb, lt-leb, leb-true, cond-true, cond-false, and_parts, true≢false, both_ways}
+use Rattle.std.proofs.lemmas.Bool.{cases_eq, cases_Bool, eq-eqb, ne_eqb, lt-ltb, le-ltb, ltb-true, le-leb, lt-leb, leb-true, cond-true, cond-false, and_parts, true≢false, both_ways}
 use Rattle.number.specs.Leb.{leb_all, reading}
 use Rattle.number.specs.Leb as number
 use Rattle.number.proofs.Numbers.{reading_leb}
-use Rattle.journal.specs.Record.{record_of, blank, member, all_zero, page_next, pages_from, counted, named, Different, Below}
+use Rattle.journal.specs.Record.{record_of, member, all_zero, page_next, pages_from, counted, named, Different, Below}
 use Rattle.journal.specs.Groups.{told}
 use Rattle.journal.specs.Stored.{member_here}
 

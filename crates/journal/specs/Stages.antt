@@ -1,14 +1,12 @@
 -- The calls of a journal as those of a store, but for commit and recover. Assumes nothing.
-use Rattle.std.specs.Prelude.{◌≡◌, ℕ, zero, suc, ◌+◌, ◌-◌, ◌*◌, ◌/◌, ◌^◌, ◌<◌, ◌≤◌, Bool, true, false, cond, ◌⊎◌, List, [], ◌∷◌, ◌++◌, length, get_or, drop, set, replicate, Some, None, Ok, Err, Option, Result, ◌==◌, nat_lt, slice_index_or, slice_set, refl}
+use Rattle.std.specs.Prelude.{◌≡◌, ℕ, zero, suc, ◌+◌, ◌-◌, ◌<◌, ◌≤◌, Bool, true, false, cond, ◌⊎◌, List, [], ◌∷◌, ◌++◌, length, get_or, drop, set, replicate, Some, None, Ok, Err, Option, Result, ◌==◌, nat_lt, slice_index_or, slice_set, refl}
 use Rattle.std.proofs.Common.{sym, ◌∙◌, subst, inl, inr, ⊎_elim, arith, length-set, length-drop, get_or-set_same, get_or-set_other}
 use Rattle.std.proofs.Math.Path.{ap}
 use Rattle.std.proofs.lemmas.List.{set-set, take_all, get_or-drop, set_comm}
-use Rattle.std.proofs.lemmas.Bool.{cases_eq, cases_Bool, eq-eqb, ne_eqb, lt-ltb, le-ltb, cond-true, cond-false, true≢false}
-use Rattle.refusal.specs.declared.Phase.{Phase}
-use Rattle.refusal.specs.declared.Phase.TheVariants as phase
+use Rattle.std.proofs.lemmas.Bool.{cases_eq, eq-eqb, ne_eqb, lt-ltb, le-ltb, cond-true, cond-false, true≢false}
 use Rattle.refusal.specs.declared.Reason.TheVariants as reason
 use Rattle.refusal.specs.declared.Refusal.{Refusal}
-use Rattle.refusal.specs.Refusals.{refusal, darkened}
+use Rattle.refusal.specs.Refusals.{refusal}
 use Rattle.disk.specs.Device.{Each, answer}
 use Rattle.disk.specs.Runs.{Write, stored}
 use Rattle.store.specs.declared.Needs.{Needs}
@@ -17,10 +15,10 @@ use Rattle.store.specs.Meaning.{Content, Call, phase_of, phase_bar, barring, bar
 use Rattle.store.specs.Meaning as call
 use Rattle.journal.specs.declared.state.Mode.{Mode}
 use Rattle.journal.specs.declared.state.Mode.TheVariants.{Due, Idle, Open}
-use Rattle.journal.specs.Record.{member, named, Different}
+use Rattle.journal.specs.Record.{member, Different}
 use Rattle.journal.specs.Layout.{names, cells_of, naming, durable, framed, overlaid}
 use Rattle.journal.specs.Groups.{looked_up, remembered}
-use Rattle.journal.specs.Meaning.{content, finding_of, staged, Sized, Grouped, RecordBlank, Opened, Whole, pended}
+use Rattle.journal.specs.Meaning.{content, finding_of, Sized, Grouped, RecordBlank, Opened, Whole, pended}
 use Rattle.journal.specs.Stored.{length_stored}
 use Rattle.journal.specs.Records.{different_more, named_are}
 use Rattle.journal.specs.Protocol.{durable_at}

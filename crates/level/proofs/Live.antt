@@ -1,6 +1,6 @@
 -- The slots of a level when one of them changes: its live undo records decide, and the others stay.
-use Rattle.std.proofs.Common.{◌≡◌, ℕ, zero, suc, ◌+◌, ◌<◌, ◌≤◌, List, [], ◌∷◌, length, get_or, set, Some, None, Option, sym, refl, ap, ◌∙◌, subst, add-one, arith}
-use Rattle.theory.specs.Slots.{Slot, committed, undone, running}
+use Rattle.std.proofs.Common.{◌≡◌, ℕ, zero, suc, ◌+◌, ◌<◌, List, [], ◌∷◌, length, get_or, set, Some, None, Option, sym, refl, ap, ◌∙◌, subst, add-one, arith}
+use Rattle.theory.specs.Slots.{Slot, committed, running}
 use Rattle.level.specs.declared.slots.SlotState.{SlotState}
 use Rattle.level.specs.declared.slots.SlotState.TheVariants.{Committed, Undone, Running}
 use Rattle.level.specs.Levels.{Found, bad, good, live, with_record, as_running, both, undos, slot_in, slots_in}

@@ -1,10 +1,10 @@
 -- What a level means, and what each of its calls answers and leaves.
-use Rattle.std.specs.Prelude.{◌≡◌, ℕ, ◌-◌, Bool, true, false, cond, ◌⊎◌, List, [], ◌∷◌, length, Some, None, Ok, Err, Option, Result, ◌≢◌, nat_le, slice_set}
+use Rattle.std.specs.Prelude.{◌≡◌, ℕ, cond, ◌⊎◌, List, [], ◌∷◌, length, Some, None, Ok, Err, Option, Result, ◌≢◌, nat_le, slice_set}
 use Rattle.refusal.specs.declared.Reason.{Reason}
 use Rattle.refusal.specs.declared.Reason.TheVariants as reason
 use Rattle.refusal.specs.declared.Refusal.{Refusal}
 use Rattle.refusal.specs.Refusals.{refusal, darkened}
-use Rattle.store.specs.Meaning.{Finding, sound, damaged, Stage, idle, grouped, dark, due, Content}
+use Rattle.store.specs.Meaning.{Finding, sound, damaged, Stage, idle, grouped, dark, due}
 use Rattle.theory.specs.Theory.{Theory, Done}
 use Rattle.theory.specs.Slots.{Slot, committed, undone, running, slot_at, is_running, undos_of, fate_of}
 use Rattle.theory.specs.Machine.{Limits, Reading, intact, unfit_reason}

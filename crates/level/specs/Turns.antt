@@ -1,5 +1,5 @@
 -- The calls of a level on the places of its store: what they refuse, and the places that they write as one group.
-use Rattle.std.specs.Prelude.{◌≡◌, ℕ, ◌<◌, ◌≤◌, Bool, true, false, cond, List, [], ◌∷◌, length, Some, None, Ok, Err, Option, Result, nat_le, slice_index_or, slice_set}
+use Rattle.std.specs.Prelude.{◌≡◌, ℕ, Bool, true, false, cond, List, [], ◌∷◌, Ok, Err, Option, Result, nat_le, slice_index_or, slice_set}
 use Rattle.refusal.specs.declared.Reason.TheVariants as reason
 use Rattle.refusal.specs.declared.Refusal.{Refusal}
 use Rattle.refusal.specs.Refusals.{refusal}
@@ -9,12 +9,11 @@ use Rattle.store.specs.Meaning.{Content, phase_of, phase_bar}
 use Rattle.place.specs.Writes.{shown, Ended}
 use Rattle.level.specs.declared.slots.SlotState.{SlotState}
 use Rattle.level.specs.declared.slots.SlotState.TheVariants.{Committed, Undone, Running}
-use Rattle.level.specs.declared.slots.Ending.{Ending}
 use Rattle.level.specs.declared.slots.Ending.TheVariants as ending
 use Rattle.level.specs.declared.turns.Change.{Change}
 use Rattle.level.specs.declared.turns.Change.TheVariants as change
 use Rattle.level.specs.declared.turns.Located.{Located}
-use Rattle.level.specs.SlotTable.{slot_byte, table_ok, table_slots}
+use Rattle.level.specs.SlotTable.{slot_byte, table_slots}
 
 -- the level cannot be used: no power, or recovery is due
 abbrev pub barred_below : ℕ → Content → Option Refusal

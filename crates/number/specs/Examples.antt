@@ -1,5 +1,5 @@
 -- Numbers and codes with their bytes, and bytes that are no number: one table.
-use Rattle.std.specs.Prelude.{◌≡◌, ℕ, List, [], ◌∷◌, None, Option}
+use Rattle.std.specs.Prelude.{◌≡◌, ℕ, List, [], ◌∷◌, None}
 use Rattle.number.specs.declared.Code.{Code}
 use Rattle.number.specs.declared.Code.TheVariants as code
 use Rattle.number.specs.Codes.{code_bytes}

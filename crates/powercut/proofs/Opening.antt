@@ -1,5 +1,5 @@
 -- A group that is open stays open through granted puts. Assumes nothing.
-use Rattle.std.proofs.Common.{◌≡◌, ℕ, List, sym, refl, ap, ◌∙◌, arith}
+use Rattle.std.proofs.Common.{◌≡◌, ℕ, List, refl, ap, ◌∙◌, arith}
 use Rattle.refusal.specs.declared.Phase.TheVariants.{Open}
 use Rattle.store.specs.Meaning.{Cells, Content, Stage, idle, grouped, dark, due, phase_of, next, Granted}
 use Rattle.store.specs.Meaning as call

@@ -1,9 +1,8 @@
 -- What a store means, and what each call answers and leaves.
 -- A store is an array of cells that is changed by atomic groups of puts.
-use Rattle.std.specs.Prelude.{◌≡◌, ℕ, ◌+◌, ◌-◌, ◌*◌, ◌/◌, ◌^◌, ◌<◌, ◌≤◌, Bool, cond, ◌⊎◌, List, [], ◌++◌, length, take, replicate, Some, None, Ok, Err, Option, Result, nat_lt, slice_set}
+use Rattle.std.specs.Prelude.{◌≡◌, ℕ, ◌+◌, ◌-◌, ◌*◌, ◌/◌, ◌^◌, ◌<◌, ◌≤◌, cond, ◌⊎◌, List, ◌++◌, length, take, replicate, Some, None, Ok, Err, Option, Result, nat_lt, slice_set}
 use Rattle.refusal.specs.declared.Phase.{Phase}
 use Rattle.refusal.specs.declared.Phase.TheVariants as phase
-use Rattle.refusal.specs.declared.Reason.{Reason}
 use Rattle.refusal.specs.declared.Reason.TheVariants as reason
 use Rattle.refusal.specs.declared.Refusal.{Refusal}
 use Rattle.refusal.specs.Refusals.{refusal, darkened}

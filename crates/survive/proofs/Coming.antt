@@ -1,10 +1,9 @@
 -- What a commit, power and a recovery leave, one after the other. Assumes nothing.
 use Rattle.std.proofs.Common.{◌≡◌, ℕ, ◌⊎◌, Some, None, Ok, Err, Option, Result, sym, refl, ap, ◌∙◌, subst, inl, inr, ⊎_elim, arith}
 use Rattle.refusal.specs.declared.Refusal.{Refusal}
-use Rattle.refusal.specs.Refusals.{darkened}
 use Rattle.store.specs.Meaning.{Cells, Content, Call, Stage, Finding, idle, grouped, dark, due, sound, damaged, finding, with_stage, dimmed, bar, next, Left, undone, done, searching, Granted, Refused, barred, cut, Outcome}
 use Rattle.store.specs.Meaning as call
-use Rattle.survive.specs.Promise.{Back, Revived, Kept, Survived}
+use Rattle.survive.specs.Promise.{Revived, Kept, Survived}
 
 clash : {X A : Type 0} {o : Option A} {a : A} → o ≡ Some a → o ≡ None → X
 clash p q = let z : ◌≡◌ {A = ℕ} 0 1 = cc in absurd (omega arith)

@@ -1,23 +1,23 @@
 -- The tally level's places after an add and after an undo.
-use Rattle.std.proofs.Common.{◌≡◌, ℕ, zero, suc, ◌+◌, ◌-◌, ◌*◌, ◌/◌, ◌%◌, ◌^◌, ◌<◌, ◌≤◌, true, cond, ltb, ◌≢◌, ◌⊎◌, List, [], ◌∷◌, ◌++◌, length, get_or, set, Some, None, sym, refl, ap, ◌∙◌, subst, inl, inr, ⊎_elim, arith, length-set, get_or-set_other, get_or-set_same}
+use Rattle.std.proofs.Common.{◌≡◌, ℕ, suc, ◌+◌, ◌-◌, ◌/◌, ◌%◌, ◌^◌, ◌<◌, ◌≤◌, ltb, List, [], ◌∷◌, ◌++◌, length, get_or, set, Some, None, sym, ap, ◌∙◌, subst, ⊎_elim, arith, length-set, get_or-set_other, get_or-set_same}
 use lib.Seq.{set-append_left}
 use Rattle.std.proofs.lemmas.List.{get_or_append_left, get_or-append_right}
 use Rattle.std.proofs.lemmas.Bool.{cases_lt, cond-true, lt-ltb}
 use Rattle.disk.specs.Device.{Each}
-use Rattle.disk.specs.Runs.{Write, stored}
+use Rattle.disk.specs.Runs.{stored}
 use Rattle.theory.specs.Slots.{Slot, running, slot_at}
 use Rattle.level.specs.declared.slots.SlotState.{SlotState}
-use Rattle.level.specs.declared.slots.SlotState.TheVariants.{Committed, Undone, Running}
+use Rattle.level.specs.declared.slots.SlotState.TheVariants.{Committed, Running}
 use Rattle.level.specs.SlotTable.{slot_byte, table_slots}
 use Rattle.level.specs.Records.{reading_record, record_bytes, record_place}
-use Rattle.level.specs.Levels.{Found, bad, good, as_running, undos, slot_in}
-use Rattle.level.proofs.Live.{Last, undos_same, undos_more, undos_less, running_found}
+use Rattle.level.specs.Levels.{good, as_running, undos, slot_in}
+use Rattle.level.proofs.Live.{undos_same, undos_more, running_found}
 use Rattle.level.proofs.Recorded.{record_back}
 use Rattle.place.proofs.Laid.{each_at}
 use Rattle.tally.specs.declared.TallyOp.{TallyOp}
-use Rattle.tally.specs.declared.TallyOp.TheVariants.{Add, Read}
+use Rattle.tally.specs.declared.TallyOp.TheVariants.{Add}
 use Rattle.tally.specs.Tallies.{inverse_amount, counted}
-use Rattle.tally.specs.Codes.{tally_code, tally_undo}
+use Rattle.tally.specs.Codes.{tally_code}
 use Rattle.tally.specs.CounterBytes.{reading_counters, written_at, with_counter}
 use Rattle.tally.specs.TallyPlaces.{as_undo, undo_at, counters_of, counter_place, value_at, added, add_writes, undo_writes}
 use Rattle.tally.proofs.Bytes.{its_bytes_change_one, read_in_parts}

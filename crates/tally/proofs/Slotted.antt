@@ -1,24 +1,18 @@
 -- The tally level's reading of its places, when one call's writes are made.
-use Rattle.std.proofs.Common.{◌≡◌, ℕ, zero, suc, ◌+◌, ◌-◌, ◌*◌, ◌/◌, ◌%◌, ◌^◌, ◌<◌, ◌≤◌, Bool, true, false, cond, ◌&&◌, leb, ◌≢◌, ◌⊎◌, List, [], ◌∷◌, ◌++◌, map, length, get_or, take, set, Some, None, Option, sym, refl, ap, ◌∙◌, subst, inl, inr, ⊎_elim, arith, length-append, length-set, get_or-set_other, get_or-set_same}
-use Rattle.std.proofs.lemmas.Bool.{cases_Bool, cases_eq, cases_lt, cond-true, cond-false, and_parts, leb-true}
-use Rattle.disk.specs.Runs.{Write, stored}
-use Rattle.theory.specs.Machine.{Reading, damaged, intact}
-use Rattle.theory.specs.Slots.{Slot, committed, undone, running, slot_at}
+use Rattle.std.proofs.Common.{◌≡◌, ℕ, zero, suc, ◌+◌, ◌<◌, ◌≤◌, true, List, [], ◌∷◌, ◌++◌, map, length, get_or, take, set, sym, refl, ap, ◌∙◌, subst, ⊎_elim, arith, get_or-set_other, get_or-set_same}
+use Rattle.std.proofs.lemmas.Bool.{cases_Bool, cond-true, cond-false}
+use Rattle.theory.specs.Machine.{damaged, intact}
+use Rattle.theory.specs.Slots.{Slot, slot_at}
 use Rattle.level.specs.declared.slots.SlotState.{SlotState}
 use Rattle.level.specs.declared.slots.SlotState.TheVariants.{Committed, Undone, Running}
-use Rattle.level.specs.SlotTable.{slot_byte, slot_of, Within, table_ok, table_slots}
-use Rattle.level.specs.Records.{reading_record, record_bytes, record_place}
-use Rattle.level.specs.Levels.{Found, bad, good, live, as_running, undos, slot_in, slots_in}
-use Rattle.level.proofs.Live.{undos_same, slot_same, slots_same, slots_length, slots_at, slots_set, undos_more, undos_less, undos_length, running_found}
+use Rattle.level.specs.SlotTable.{slot_byte, Within, table_ok, table_slots}
+use Rattle.level.specs.Records.{reading_record, record_place}
+use Rattle.level.specs.Levels.{Found, bad, good, live, slot_in, slots_in}
+use Rattle.level.proofs.Live.{slots_at, slots_set}
 use Rattle.level.proofs.Tabled.{slot_set, slot_found, slot_same as byte-same, table_parts}
-use Rattle.level.proofs.Recorded.{record_back}
 use Rattle.tally.specs.declared.TallyOp.{TallyOp}
-use Rattle.tally.specs.declared.TallyOp.TheVariants.{Add, Read}
-use Rattle.tally.specs.Tallies.{inverse_amount, counted}
-use Rattle.tally.specs.Codes.{tally_code, tally_undo}
-use Rattle.tally.specs.CounterBytes.{reading_counters, written_at, with_counter}
-use Rattle.tally.specs.TallyPlaces.{as_undo, undo_at, counters_of, told, tally_reading, counter_place, value_at, added, add_writes, undo_writes}
-use Rattle.tally.proofs.Bytes.{its_bytes_change_one, read_in_parts}
+use Rattle.tally.specs.CounterBytes.{reading_counters}
+use Rattle.tally.specs.TallyPlaces.{as_undo, undo_at, counters_of, told, tally_reading}
 
 -- an intact reading, part by part
 pub record Intact (ps : List (List ℕ)) (s : List ℕ) (ss : List (Slot TallyOp)) : Type 0 where

@@ -1,8 +1,6 @@
 -- The tally level as the places of a store hold it: place 0 is the slot table, places 1 to 128 are the undo records of eight slots, sixteen each,
 -- and places 129 and 130 are the counters.
-use Rattle.std.specs.Prelude.{◌≡◌, ℕ, ◌+◌, ◌-◌, ◌*◌, ◌/◌, ◌%◌, ◌^◌, ◌<◌, ◌≤◌, Bool, true, false, cond, ◌&&◌, List, [], ◌∷◌, ◌++◌, length, Some, None, Option, nat_le, slice_index, slice_index_or, slice_set}
-use Rattle.refusal.specs.declared.Reason.TheVariants as reason
-use Rattle.refusal.specs.Refusals.{refusal}
+use Rattle.std.specs.Prelude.{◌≡◌, ℕ, ◌+◌, ◌/◌, ◌%◌, ◌^◌, ◌≤◌, cond, ◌&&◌, List, [], ◌∷◌, ◌++◌, length, Some, None, Option, nat_le, slice_index, slice_index_or, slice_set}
 use Rattle.number.specs.declared.Code.{Code}
 use Rattle.disk.specs.Runs.{Write}
 use Rattle.store.specs.Meaning.{Content, Stage, idle, grouped, dark, due}
@@ -10,14 +8,12 @@ use Rattle.level.specs.Calls.{Standing, below_of, read_on}
 use Rattle.place.specs.Writes.{shown}
 use Rattle.theory.specs.Machine.{Reading, damaged, intact}
 use Rattle.theory.specs.Slots.{Slot}
-use Rattle.level.specs.declared.slots.SlotState.{SlotState}
-use Rattle.level.specs.declared.slots.SlotState.TheVariants.{Committed, Undone, Running}
+use Rattle.level.specs.declared.slots.SlotState.TheVariants.{Running}
 use Rattle.level.specs.SlotTable.{slot_byte, table_ok, table_slots}
 use Rattle.level.specs.Records.{reading_record, record_bytes, record_place}
 use Rattle.level.specs.Levels.{Found, bad, good, slots_in}
-use Rattle.level.specs.Turns.{Turn, refuses, writes, table_of, state_of}
 use Rattle.tally.specs.declared.TallyOp.{TallyOp}
-use Rattle.tally.specs.declared.TallyOp.TheVariants.{Add, Read}
+use Rattle.tally.specs.declared.TallyOp.TheVariants.{Add}
 use Rattle.tally.specs.declared.content.TallyContent.{TallyContent}
 use Rattle.tally.specs.declared.content.TallyContent.TheVariants as content
 use Rattle.tally.specs.Tallies.{inverse_amount}

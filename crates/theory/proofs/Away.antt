@@ -3,7 +3,7 @@ use Rattle.std.proofs.Common.{◌≡◌, ℕ, true, false, cond, eqb, List, [], 
 use Rattle.std.proofs.lemmas.Bool.{false≢true, eqb-true, cases_eq}
 use Rattle.refusal.specs.Refusals.{darkened}
 use Rattle.theory.specs.Theory.{Lock, Theory, Lawful}
-use Rattle.theory.specs.Slots.{Slot, slot_at, is_running, fates, Undoing, committed, running}
+use Rattle.theory.specs.Slots.{Slot, slot_at, is_running, fates, Undoing}
 use Rattle.theory.specs.Machine.{Limits, Reading, Call, damaged, intact, Begin, Perform, Commit, Abort, Power, Recover, Fate, refused}
 use Rattle.theory.specs.History.{History, has, without, doubt, discard_running, resolve, enter}
 use Rattle.theory.specs.Serial.{all_of}

@@ -1,9 +1,8 @@
 -- The example runs, call by call.
-use Rattle.std.proofs.Common.{◌≡◌, ℕ, List, [], ◌∷◌, Some, None, Option, sym, refl, ap, ◌∙◌}
-use Rattle.theory.specs.Theory.{Takes}
+use Rattle.std.proofs.Common.{◌≡◌, [], ◌∷◌, Some, refl}
 use Rattle.theory.specs.Slots.{skip, undo_record, close_slot, stop, committed, undone}
-use Rattle.theory.specs.Machine.{fresh, Begin, Perform, Commit, Abort, Power, Recover, Fate, powered, cut, not_done, done, abort_stopped, recover_stopped, ready}
-use Rattle.theory.specs.Serial.{Worked, new, call, Serial}
+use Rattle.theory.specs.Machine.{fresh, Begin, Perform, Commit, Abort, Power, Recover, Fate, powered, cut, done, abort_stopped, recover_stopped, ready}
+use Rattle.theory.specs.Serial.{Worked, new, call}
 use Rattle.theory.specs.Counter.{counter_theory, counter_limits}
 use Rattle.theory.specs.Example.{cut_commit, cut_commit_view, CutCommitIsCovered, cut_again, CutAgainIsCovered}
 use Rattle.theory.specs.declared.CounterOp.TheVariants.{Add, Read}

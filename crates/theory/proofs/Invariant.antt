@@ -3,7 +3,7 @@ use Rattle.std.proofs.Common.{◌≡◌, ℕ, Bool, true, false, cond, eqb, List
 use lib.ListN.{length-replicate}
 use Rattle.std.proofs.lemmas.Bool.{false≢true, eqb-false}
 use Rattle.theory.specs.Theory.{Lock, Theory, Lawful}
-use Rattle.theory.specs.Slots.{Slot, slot_at, is_running, fates, committed, running}
+use Rattle.theory.specs.Slots.{Slot, slot_at, is_running, fates, committed}
 use Rattle.theory.specs.Machine.{Limits, Reading, View, Call, Gives, Outcome, fresh, damaged, intact, ready, dark, due}
 use Rattle.theory.specs.History.{Event, History, has, empty_history, of_slots, of_running, resolve, enter, history}
 use Rattle.theory.specs.Serial.{all_of, operations, after, AnswersAreSerial, Serial, fates_told}

@@ -4,7 +4,6 @@ use Rattle.refusal.specs.declared.Reason.TheVariants.{OutOfRange, WrongState, Li
 use Rattle.theory.specs.Theory.{Lock, Done, Theory}
 use Rattle.theory.specs.Slots.{Slot, slot_at, is_running}
 use Rattle.theory.specs.Machine.{unfit_reason, Limits, refuses, rival, by_manager, outcome, ready, Begin, Perform, Commit, Abort, Fate}
-use Rattle.theory.proofs.Ready.{within}
 
 module _ {Op Answer : Type 0} (th : Theory Op Answer) (lim : Limits Op th.State) (s : th.State) (slots : List (Slot Op)) (locks : List (List Lock)) (t : ℕ) where
   module _ (high : leb lim.slots t ≡ true) where

@@ -1,5 +1,5 @@
 -- The history: which transactions committed, in which order, and which run, by calls and answers alone.
-use Rattle.std.specs.Prelude.{ℕ, Bool, true, false, cond, not, ◌||◌, List, [], ◌∷◌, ◌++◌, filter, ◌==◌, nat_eq, slice_index_or}
+use Rattle.std.specs.Prelude.{ℕ, Bool, false, cond, not, ◌||◌, List, [], ◌∷◌, ◌++◌, filter, ◌==◌, nat_eq, slice_index_or}
 use Rattle.theory.specs.Slots.{fate_committed}
 use Rattle.theory.specs.Machine.{Call, Begin, Perform, Commit, Abort, Power, Recover, Fate, Reply, granted, refused, Gives, is_dark}
 

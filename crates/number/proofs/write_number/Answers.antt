@@ -1,4 +1,4 @@
-use Rattle.std.proofs.Common.{ℕ, ◌<◌, length, arith}
+use Rattle.std.proofs.Common.{◌<◌, length, arith}
 use Rattle.number.proofs.Written.{start, again, inside, done}
 use Rattle.number.proofs.write_number.Goals as goal
 use Rattle.number.proofs.write_number.Goals.{In-loop-left, After-loop-left}

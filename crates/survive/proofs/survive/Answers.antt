@@ -1,6 +1,5 @@
-use Rattle.std.proofs.Common.{◌≡◌, ℕ, Ok, Err}
+use Rattle.std.proofs.Common.{Ok, Err}
 use Rattle.std.proofs.lemmas.Result.{err_from_is_err_and}
-use Rattle.store.specs.Meaning.{Cells, grouped}
 use Rattle.survive.proofs.Coming.{Ended, commit_ends, survives}
 use Rattle.survive.proofs.survive.Goals as goal
 

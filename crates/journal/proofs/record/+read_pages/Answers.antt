@@ -1,4 +1,4 @@
-use Rattle.std.proofs.Common.{◌≡◌, ◌-◌, vec_items, sym, ap, ◌∙◌}
+use Rattle.std.proofs.Common.{◌-◌, vec_items, sym, ap, ◌∙◌}
 use Rattle.journal.specs.Layout.{names}
 use Rattle.journal.specs.Groups.{entries, told}
 use Rattle.journal.specs.Record.{pages_from}

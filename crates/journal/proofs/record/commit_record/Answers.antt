@@ -1,4 +1,4 @@
-use Rattle.std.proofs.Common.{◌≡◌, ◌+◌, [], ◌∷◌, ◌++◌, length, get_or, sym, ap, ◌∙◌, subst, arith}
+use Rattle.std.proofs.Common.{◌+◌, [], ◌∷◌, ◌++◌, length, get_or, sym, ap, ◌∙◌, subst, arith}
 use Rattle.journal.specs.declared.group.Pending.{Pending}
 use Rattle.journal.proofs.Writing.{Holds, holds_none, holds_size, holds_fits, holds_more, so_far, so_far_more, length_so_far, record_held}
 use Rattle.journal.proofs.record.commit_record.Goals as goal

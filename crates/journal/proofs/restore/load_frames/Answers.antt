@@ -1,7 +1,7 @@
-use Rattle.std.proofs.Common.{◌≡◌, ◌+◌, ◌<◌, ◌≤◌, length, get_or, vec_items, vec_len, sym, refl, ap, ◌∙◌, arith}
+use Rattle.std.proofs.Common.{◌+◌, ◌<◌, length, get_or, vec_items, refl, ap, ◌∙◌, arith}
 use Rattle.journal.specs.declared.group.Pending.{Pending}
 use Rattle.disk.proofs.Writes.{read_done, read_granted}
-use Rattle.journal.proofs.Loading.{Loading, loading_none, loading_more, loading_all}
+use Rattle.journal.proofs.Loading.{loading_none, loading_more, loading_all}
 use Rattle.journal.proofs.restore.load_frames.Goals as goal
 
 pub loop-turn-init : goal.loop-turn-init

@@ -1,9 +1,9 @@
-use Rattle.std.proofs.Common.{◌≡◌, ◌-◌, ◌<◌, ◌≤◌, true, length, get_or, Some, None, Ok, Err, vec_items, sym, refl, ap, ◌∙◌, subst, arith}
+use Rattle.std.proofs.Common.{◌≡◌, ◌-◌, ◌<◌, true, length, Err, vec_items, ap, ◌∙◌, arith}
 use Rattle.disk.proofs.Runs.{Ran, as_run}
 use Rattle.disk.proofs.Writes.{read_done, read_granted}
 use Rattle.journal.specs.Record.{named}
-use Rattle.journal.specs.Layout.{names, naming, framed, writes_from}
-use Rattle.journal.specs.Groups.{entries, told}
+use Rattle.journal.specs.Layout.{names, naming, writes_from}
+use Rattle.journal.specs.Groups.{entries}
 use Rattle.journal.proofs.Restoring.{restored_damaged, restored}
 use Rattle.journal.proofs.restore.restore.Goals as goal
 

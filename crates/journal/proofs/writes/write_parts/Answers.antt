@@ -1,10 +1,10 @@
-use Rattle.std.proofs.Common.{◌≡◌, ◌+◌, ◌-◌, ◌<◌, ◌≤◌, ◌++◌, length, sym, refl, ap, ◌∙◌, subst, arith}
+use Rattle.std.proofs.Common.{◌≡◌, ◌+◌, ◌-◌, ◌≤◌, length, sym, refl, ap, ◌∙◌, arith}
 use Rattle.std.proofs.lemmas.Result.{err_from_is_err_and}
 use Rattle.std.proofs.lemmas.List.{nil_from_length}
 use Rattle.std.proofs.lemmas.Bool.{eqb-true, eqb-false}
 use Rattle.disk.specs.Runs.{ran, ran_answer}
 use Rattle.disk.proofs.Runs.{Ran, as_run, ran_none, then_run, then_stop}
-use Rattle.journal.specs.Layout.{part_at, part_writes, parts_from, writes_from}
+use Rattle.journal.specs.Layout.{part_writes, parts_from, writes_from}
 use Rattle.journal.specs.Groups.{entries}
 use Rattle.journal.proofs.Turns.{parts_next, parts_left, parts_done}
 use Rattle.journal.proofs.writes.write_parts.Goals as goal

@@ -1,4 +1,4 @@
-use Rattle.std.proofs.Common.{◌-◌, ◌≤◌, Ok}
+use Rattle.std.proofs.Common.{◌-◌, Ok}
 use Rattle.disk.proofs.Runs.{Ran}
 use Rattle.journal.specs.Layout.{parts_from}
 use Rattle.journal.specs.Groups.{entries}

@@ -1,10 +1,9 @@
-use Rattle.std.proofs.Common.{◌≡◌, vec_items, sym, refl, ap, ◌∙◌, subst}
+use Rattle.std.proofs.Common.{refl, ap, ◌∙◌}
 use Rattle.std.proofs.lemmas.Result.{err_from_is_err_and}
 use Rattle.disk.specs.Device.{answer}
 use Rattle.store.specs.Meaning.{phase_bar, Outcome, barring}
 use Rattle.store.specs.Meaning as call
 use Rattle.store.specs.declared.Needs.TheVariants as needs
-use Rattle.journal.specs.Groups.{entries}
 use Rattle.journal.specs.Meaning.{group_of}
 use Rattle.journal.specs.Stages.{refused_phase, first_begin, answer_ok, stands_idle, begun, begun_whole}
 use Rattle.journal.proofs.calls.JournalStore.begin.Goals as goal

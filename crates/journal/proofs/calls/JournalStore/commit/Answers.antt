@@ -1,4 +1,4 @@
-use Rattle.std.proofs.Common.{◌≡◌, Ok, Err, sym, refl, ap, ◌∙◌, subst}
+use Rattle.std.proofs.Common.{Ok, Err, sym, refl, ap, ◌∙◌}
 use Rattle.std.proofs.lemmas.Result.{err_from_is_err_and}
 use Rattle.disk.specs.Device.{answer}
 use Rattle.disk.specs.Runs.{ran, ran_answer}
@@ -7,7 +7,7 @@ use Rattle.journal.specs.Groups.{entries}
 use Rattle.store.specs.Meaning.{phase_bar}
 use Rattle.store.specs.Meaning as call
 use Rattle.store.specs.declared.Needs.TheVariants as needs
-use Rattle.journal.specs.Meaning.{group_of, meaning, wholly}
+use Rattle.journal.specs.Meaning.{group_of, wholly}
 use Rattle.journal.specs.Stages.{refused_phase, first_commit, answer_ok, answer_err, stands_open}
 use Rattle.journal.proofs.Turns.{all_parts}
 use Rattle.journal.proofs.Commits.{commit_call, commit_disk, commit_barred}

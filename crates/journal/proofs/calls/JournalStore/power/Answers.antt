@@ -1,4 +1,4 @@
-use Rattle.std.proofs.Common.{◌≡◌, sym, refl, ap, ◌∙◌}
+use Rattle.std.proofs.Common.{ap, ◌∙◌}
 use Rattle.disk.specs.Device.{Device}
 use Rattle.journal.specs.declared.state.Mode.TheVariants.{Due}
 use Rattle.journal.specs.Meaning.{group_of, content}

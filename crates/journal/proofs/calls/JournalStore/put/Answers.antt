@@ -1,4 +1,4 @@
-use Rattle.std.proofs.Common.{◌≡◌, ◌<◌, ◌≤◌, cond, Some, vec_items, vec_len, sym, refl, ap, ◌∙◌, subst, arith}
+use Rattle.std.proofs.Common.{◌<◌, ◌≤◌, cond, Some, vec_items, vec_len, sym, refl, ap, ◌∙◌, arith}
 use Rattle.std.proofs.lemmas.Result.{err_from_is_err_and}
 use Rattle.journal.specs.Groups.{remembered}
 use Rattle.journal.proofs.Writing.{length_entries}
@@ -9,7 +9,7 @@ use Rattle.journal.specs.Layout.{cells_of}
 use Rattle.store.specs.Meaning.{phase_bar}
 use Rattle.store.specs.Meaning as call
 use Rattle.store.specs.declared.Needs.TheVariants as needs
-use Rattle.journal.specs.Meaning.{group_of, meaning, wholly}
+use Rattle.journal.specs.Meaning.{group_of, wholly}
 use Rattle.journal.specs.Stages.{refused_phase, first_put, answer_ok, stands_open, opened_at, put_beyond, put_full, put_refused, put_call}
 use Rattle.journal.proofs.calls.JournalStore.put.Goals as goal
 
