@@ -2,7 +2,7 @@
 use Rattle.std.proofs.Common.{◌≡◌, ℕ, zero, suc, ◌+◌, ◌-◌, ◌^◌, ◌<◌, ◌≤◌, true, false, not, ◌&&◌, eqb, ltb, leb, List, [], ◌∷◌, ◌++◌, length, replicate, Some, None, Option, sym, refl, ap, ◌∙◌, subst, ⊎_elim, append_assoc, arith, length-append}
 use lib.ListN.{length-replicate}
 use Rattle.std.proofs.lemmas.Bool.{cases_Bool, cases_eq, eq-eqb, ne_eqb, eqb-true, ltb-true, leb-true, cond-true, cond-false, and_parts, not-true, true≢false, both_ways}
-use Rattle.std.specs.List.{AllByRecursion as All}
+use Rattle.std.specs.List.{AllByRecursion}
 use Rattle.number.specs.Leb.{leb_all, reading}
 use Rattle.number.specs.Leb as number
 use Rattle.number.proofs.Numbers.{from_reading}
@@ -13,7 +13,7 @@ use Rattle.journal.specs.Records.{named_back}
 none_some : {X A : Type 0} {a : A} → None ≡ Some a → X
 none_some e = let z : ◌≡◌ {A = ℕ} 0 1 = cc in absurd (omega arith)
 
-all_after : (xs ys : List ℕ) → All (λ b. b < 256) (xs ++ ys) → All (λ b. b < 256) ys
+all_after : (xs ys : List ℕ) → AllByRecursion (λ b. b < 256) (xs ++ ys) → AllByRecursion (λ b. b < 256) ys
 all_after [] ys a = a
 all_after (x ∷ xs) ys a = all_after xs ys a.1
 
@@ -91,7 +91,7 @@ append_none (x ∷ xs) = ap (λ l. x ∷ l) (append_none xs)
 some_same : {xs ys : List ℕ} → Some xs ≡ Some ys → xs ≡ ys
 some_same q = cc
 
-pages_of : (cells k : ℕ) (seen bs ps : List ℕ) → All (λ b. b < 256) bs → pages_from k cells seen bs ≡ Some ps → Pages cells k seen bs ps
+pages_of : (cells k : ℕ) (seen bs ps : List ℕ) → AllByRecursion (λ b. b < 256) bs → pages_from k cells seen bs ≡ Some ps → Pages cells k seen bs ps
 unfolding pages_from Fresh
 pages_of cells zero seen bs ps a e =
     ⊎_elim
@@ -101,7 +101,7 @@ pages_of cells zero seen bs ps a e =
 pages_of cells (suc k) seen bs ps a e =
     let n = step_of cells seen k bs ps (reading bs) refl e in
     let first = (from_reading bs a n.page n.rest n.read).1 in
-    let r = pages_of cells k (seen ++ n.page ∷ []) n.rest ps (all_after (number.leb n.page) n.rest (subst (All (λ b. b < 256)) first a)) n.more in
+    let r = pages_of cells k (seen ++ n.page ∷ []) n.rest ps (all_after (number.leb n.page) n.rest (subst (AllByRecursion (λ b. b < 256)) first a)) n.more in
     record {
       pages = n.page ∷ r.pages;
       zeros = r.zeros;
@@ -119,7 +119,7 @@ record_text k zeros bs ps l t c =
     let left : zeros ≡ 256 - length (leb_all (k ∷ ps)) = omega arith in
     t ∙ ap (λ n. leb_all (k ∷ ps) ++ replicate n 0) left ∙ ap (λ n. leb_all (n ∷ ps) ++ replicate (256 - length (leb_all (n ∷ ps))) 0) (sym c)
 
-read_exactly : (cells : ℕ) (bs ps : List ℕ) → All (λ b. b < 256) bs → length bs ≡ 256 → named cells bs ≡ Some ps → (bs ≡ record_of ps) × (length ps ≤ 6) × Different cells ps
+read_exactly : (cells : ℕ) (bs ps : List ℕ) → AllByRecursion (λ b. b < 256) bs → length bs ≡ 256 → named cells bs ≡ Some ps → (bs ≡ record_of ps) × (length ps ≤ 6) × Different cells ps
 unfolding named
 read_exactly cells bs ps a l e = go (reading bs) refl e
   where
@@ -129,7 +129,7 @@ read_exactly cells bs ps a l e = go (reading bs) refl e
         ⊎_elim
         (λ t.
         let first = (from_reading bs a k rest q).1 in
-        let r = pages_of cells k [] rest ps (all_after (number.leb k) rest (subst (All (λ b. b < 256)) first a)) (sym (cond-true (leb k 6) (pages_from k cells [] rest) None t) ∙ h) in
+        let r = pages_of cells k [] rest ps (all_after (number.leb k) rest (subst (AllByRecursion (λ b. b < 256)) first a)) (sym (cond-true (leb k 6) (pages_from k cells [] rest) None t) ∙ h) in
         let c : length ps ≡ k = ap length r.all ∙ r.count in
         let text : bs ≡ leb_all (k ∷ ps) ++ replicate r.zeros 0 = first ∙ ap (λ x. number.leb k ++ x) r.text ∙ sym (append_assoc (number.leb k) (leb_all r.pages) (replicate r.zeros 0)) ∙ ap (λ x. (number.leb k ++ leb_all x) ++ replicate r.zeros 0) (sym r.all) in
         (record_text k r.zeros bs ps l text c, omega (arith, leb-true k 6 t), subst (Different cells) (sym r.all) (fresh_different cells [] r.pages r.fresh)))

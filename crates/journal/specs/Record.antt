@@ -1,6 +1,6 @@
 -- The commit record: a number k, 0 to 6, then k different page numbers, then zeros to the end of its block.
 use Rattle.std.specs.Prelude.{◌≡◌, ℕ, zero, suc, ◌-◌, ◌<◌, ◌≤◌, Bool, true, false, cond, not, ◌&&◌, List, [], ◌∷◌, ◌++◌, length, replicate, Some, None, Option, ◌==◌, nat_le, nat_lt}
-use Rattle.std.specs.List.{AllByRecursion as All}
+use Rattle.std.specs.List.{AllByRecursion}
 use Rattle.number.specs.Leb.{leb_all, reading}
 
 -- the record that names these pages
@@ -50,4 +50,4 @@ Below cells (p ∷ ps) = (p < cells) × Below cells ps
 -- The law of the record: of 256 bytes exactly those are read that name at most six different pages of the store, then zeros; all else is damage.
 pub record Exactly (cells : ℕ) : Type 0 where
   pub written : (ps : List ℕ) → length ps ≤ 6 → Different cells ps → named cells (record_of ps) ≡ Some ps
-  pub read : (bs ps : List ℕ) → All (λ b. b < 256) bs → length bs ≡ 256 → named cells bs ≡ Some ps → (bs ≡ record_of ps) × (length ps ≤ 6) × Different cells ps
+  pub read : (bs ps : List ℕ) → AllByRecursion (λ b. b < 256) bs → length bs ≡ 256 → named cells bs ≡ Some ps → (bs ≡ record_of ps) × (length ps ≤ 6) × Different cells ps

@@ -2,7 +2,7 @@
 use Rattle.std.proofs.Common.{◌≡◌, ℕ, zero, suc, ◌+◌, ◌-◌, ◌*◌, ◌/◌, ◌%◌, ◌^◌, ◌<◌, ◌≤◌, eqb, ltb, leb as leb≤, List, [], ◌∷◌, ◌++◌, length, Some, None, Option, sym, refl, ap, ◌∙◌, subst, ⊎_elim, arith}
 use Rattle.std.proofs.lemmas.Bool.Decides.{nat_tests}
 use Rattle.std.proofs.lemmas.Bool.{cond-true, cond-false, cond_both, lt-ltb, le-ltb, le-leb, lt-leb, ne_eqb, eq-eqb, cases_lt, cases_eq}
-use Rattle.std.specs.List.{AllByRecursion as All}
+use Rattle.std.specs.List.{AllByRecursion}
 use Rattle.number.specs.Bytes.{Sound, Exact}
 use Rattle.number.specs.Leb.{lebs, leb, groups_of, carried, reading_in, reading, room}
 
@@ -121,7 +121,7 @@ carried_from k b n bs rest lo hi (Some (m, after)) inner e =
     (cases_eq m 0)
 
 -- what is read of bytes is a number whose own bytes stand first
-from_reading_in : (k : ℕ) (bs : List ℕ) → All (λ b. b < 256) bs → (n : ℕ) (rest : List ℕ) → reading_in k bs ≡ Some (n, rest)
+from_reading_in : (k : ℕ) (bs : List ℕ) → AllByRecursion (λ b. b < 256) bs → (n : ℕ) (rest : List ℕ) → reading_in k bs ≡ Some (n, rest)
     → (n < room k) × (bs ≡ lebs k n ++ rest)
 unfolding reading_in lebs
 from_reading_in zero [] all n rest e = absurd (none_some (n, rest) e)
@@ -142,7 +142,7 @@ from_reading_in (suc k) (b ∷ bs) all n rest e =
     (λ hi. carried_from k b n bs rest hi all.0 (reading_in k bs) (λ m after f. from_reading_in k bs all.1 m after f) (sym (reads_more k b bs hi) ∙ e))
     (cases_lt b 128)
 
-pub from_reading : (bs : List ℕ) → All (λ b. b < 256) bs → (n : ℕ) (rest : List ℕ) → reading bs ≡ Some (n, rest)
+pub from_reading : (bs : List ℕ) → AllByRecursion (λ b. b < 256) bs → (n : ℕ) (rest : List ℕ) → reading bs ≡ Some (n, rest)
     → (n < 2 ^ 32) × (bs ≡ leb n ++ rest)
 unfolding reading leb
 from_reading bs all n rest e = from_reading_in 4 bs all n rest e

@@ -1,6 +1,6 @@
 -- The examples, all by one test that is computed over the whole table. Assumes nothing.
 use Rattle.std.proofs.Common.{◌≡◌, ℕ, Bool, true, false, not, ◌&&◌, eqb, List, [], ◌∷◌, is_some, Some, None, Option, refl, ap, ◌∙◌}
-use Rattle.std.specs.List.{AllByRecursion as All}
+use Rattle.std.specs.List.{AllByRecursion}
 use Rattle.std.proofs.lemmas.Bool.{and_parts, eqb-true, both_ways}
 use Rattle.number.specs.Codes.{code_bytes}
 use Rattle.number.specs.Examples.{Sample, numbers, operation, no_number, examples, Holds}
@@ -38,10 +38,10 @@ holds (numbers ns, bs) e = same_true (leb_all ns) bs e
 holds (operation c, bs) e = same_true (code_bytes c) bs e
 holds (no_number, bs) e = none_true (reading bs) e
 
-each : (rows : List (Sample × List ℕ)) → every rows ≡ true → All Holds rows
+each : (rows : List (Sample × List ℕ)) → every rows ≡ true → AllByRecursion Holds rows
 each [] e = tt
 each (row ∷ rows) e = let p = and_parts (test row) (every rows) e in (holds row p.0, each rows p.1)
 
-pub all_hold : All Holds examples
+pub all_hold : AllByRecursion Holds examples
 unfolding lebs leb reading_in reading
 all_hold = each examples refl

@@ -2,7 +2,7 @@
 #![tactic(auto)]
 
 ghost use Rattle.std.specs.Prelude.{◌≡◌, ℕ, ◌+◌, ◌*◌, ◌^◌, ◌<◌, ◌≤◌, leb as leb≤, List, ◌++◌, length, Some, MatchOption};
-ghost use Rattle.std.specs.List.{AllByRecursion as All};
+ghost use Rattle.std.specs.List.{AllByRecursion};
 ghost use Rattle.number.specs.Bytes.{held, Exact, Written};
 ghost use Rattle.number.specs.Codes.{kind_number, kind_of, kind_at, numbers, code_bytes, code_of, reading_code, Small};
 ghost use Rattle.number.specs.Examples.{examples, Holds};
@@ -265,7 +265,7 @@ pub fn write_code(code: Code, out: &mut [u8], at: usize) -> Option<usize>
 
 // The table of examples holds, row by row.
 pub fn examples_hold() -> u8
-    ensures { All Holds examples }
+    ensures { AllByRecursion Holds examples }
 {
     0
 }

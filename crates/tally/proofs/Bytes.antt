@@ -1,6 +1,6 @@
 -- The laws of counters and their bytes.
 use Rattle.std.proofs.Common.{◌≡◌, ℕ, zero, suc, ◌+◌, ◌-◌, ◌*◌, ◌/◌, ◌%◌, ◌^◌, ◌<◌, ◌≤◌, List, [], ◌∷◌, ◌++◌, length, get_or, take, drop, sym, refl, ap, ◌∙◌, ap₂, arith, length-append}
-use Rattle.std.specs.List.{AllByRecursion as All}
+use Rattle.std.specs.List.{AllByRecursion}
 use Rattle.std.proofs.lemmas.Nat.{shr-shr}
 use Rattle.std.proofs.ByRecursion.{All-append}
 use Rattle.tally.specs.CounterBytes.{counter_bytes, counters_bytes, counter_of, reading_counters, counter_from, with_counter, CountersReadBack, BytesReadBack, OneCounterChanges, ItsBytesChangeOne, CountersFit, ReadInParts, PlacesAreGood, CounterLaws}
@@ -110,7 +110,7 @@ bytes_long : (ns : List ℕ) → length (counters_bytes ns) ≡ 4 * length ns
 bytes_long [] = refl
 bytes_long (n ∷ ns) = let e = bytes_long ns in omega arith
 
-bytes_small : (ns : List ℕ) → All (λ b. b < 256) (counters_bytes ns)
+bytes_small : (ns : List ℕ) → AllByRecursion (λ b. b < 256) (counters_bytes ns)
 bytes_small [] = tt
 bytes_small (n ∷ ns) = (omega arith, (omega arith, (omega arith, (omega arith, bytes_small ns))))
 

@@ -1,6 +1,6 @@
 -- Counters as bytes: four bytes each, lowest first, one counter after the other. Sixteen counters fill a place of 64 bytes.
 use Rattle.std.specs.Prelude.{◌≡◌, ℕ, ◌+◌, ◌*◌, ◌/◌, ◌%◌, ◌^◌, ◌<◌, ◌≤◌, cond, List, [], ◌∷◌, ◌++◌, length, take, drop, replicate, Some, None, Option, nat_lt, slice_index, slice_set}
-use Rattle.std.specs.List.{AllByRecursion as All}
+use Rattle.std.specs.List.{AllByRecursion}
 use Rattle.tally.specs.Laws.{GoodCounters}
 
 abbrev pub counter_bytes : ℕ → List ℕ
@@ -40,10 +40,10 @@ written_at i v bs = cond (nat_lt i 16) (with_counter i v bs) bs
 
 -- Laws.
 abbrev pub CountersReadBack : Type 0
-CountersReadBack = (ns : List ℕ) → All (λ n. n < 2 ^ 32) ns → reading_counters (counters_bytes ns) ≡ ns
+CountersReadBack = (ns : List ℕ) → AllByRecursion (λ n. n < 2 ^ 32) ns → reading_counters (counters_bytes ns) ≡ ns
 
 abbrev pub BytesReadBack : Type 0
-BytesReadBack = (k : ℕ) (bs : List ℕ) → length bs ≡ 4 * k → All (λ b. b < 256) bs → counters_bytes (reading_counters bs) ≡ bs
+BytesReadBack = (k : ℕ) (bs : List ℕ) → length bs ≡ 4 * k → AllByRecursion (λ b. b < 256) bs → counters_bytes (reading_counters bs) ≡ bs
 
 -- a counter that changes changes its four bytes alone
 abbrev pub OneCounterChanges : Type 0
@@ -55,10 +55,10 @@ ItsBytesChangeOne = (bs : List ℕ) (i v : ℕ) → 4 * i + 4 ≤ length bs → 
 
 -- what is read is below 2^32, and what is written are bytes
 abbrev pub CountersFit : Type 0
-CountersFit = (bs : List ℕ) → All (λ b. b < 256) bs → All (λ n. n < 2 ^ 32) (reading_counters bs)
+CountersFit = (bs : List ℕ) → AllByRecursion (λ b. b < 256) bs → AllByRecursion (λ n. n < 2 ^ 32) (reading_counters bs)
 
 abbrev pub BytesFit : Type 0
-BytesFit = (ns : List ℕ) → (length (counters_bytes ns) ≡ 4 * length ns) × All (λ b. b < 256) (counters_bytes ns)
+BytesFit = (ns : List ℕ) → (length (counters_bytes ns) ≡ 4 * length ns) × AllByRecursion (λ b. b < 256) (counters_bytes ns)
 
 -- two runs of bytes, the first with whole counters
 abbrev pub ReadInParts : Type 0
@@ -66,7 +66,7 @@ ReadInParts = (k : ℕ) (xs ys : List ℕ) → length xs ≡ 4 * k → (length (
 
 -- two places hold the 32 counters of a good state
 abbrev pub PlacesAreGood : Type 0
-PlacesAreGood = (xs ys : List ℕ) → length xs ≡ 64 → length ys ≡ 64 → All (λ b. b < 256) xs → All (λ b. b < 256) ys → GoodCounters (reading_counters xs ++ reading_counters ys)
+PlacesAreGood = (xs ys : List ℕ) → length xs ≡ 64 → length ys ≡ 64 → AllByRecursion (λ b. b < 256) xs → AllByRecursion (λ b. b < 256) ys → GoodCounters (reading_counters xs ++ reading_counters ys)
 
 -- places of zeros hold the empty state
 abbrev pub ZerosAreEmpty : Type 0

@@ -2,7 +2,7 @@
 use Rattle.std.specs.Prelude.{◌≡◌, ℕ, zero, suc, ◌+◌, ◌%◌, ◌^◌, ◌<◌, Bool, true, false, ◌&&◌, ◌||◌, List, [], ◌∷◌, length, replicate, Some, None, Option, ◌==◌, ◌≢◌, slice_index, slice_index_or, refl}
 use Rattle.std.proofs.Common.{sym, ap, ap₂, subst, ◌∙◌, arith, length-set}
 use Rattle.std.proofs.Math.Dec.{eqb-zero-suc, eqb-suc-zero, eqb-suc-suc}
-use Rattle.std.specs.List.{AllByRecursion as All}
+use Rattle.std.specs.List.{AllByRecursion}
 use Rattle.theory.specs.Theory.{Lock, Done, Lawful}
 use Rattle.tally.specs.declared.TallyOp.{TallyOp}
 use Rattle.tally.specs.declared.TallyOp.TheVariants.{Add, Read}
@@ -15,19 +15,19 @@ Below n = n < 2 ^ 32
 
 -- 32 counters, each below 2^32
 abbrev pub GoodCounters : List ℕ → Type 0
-GoodCounters s = (length s ≡ 32) × All Below s
+GoodCounters s = (length s ≡ 32) × AllByRecursion Below s
 
-pub zeros_below : (k : ℕ) → All Below (replicate k 0)
+pub zeros_below : (k : ℕ) → AllByRecursion Below (replicate k 0)
 zeros_below zero = tt
 zeros_below (suc k) = (omega arith, zeros_below k)
 
-pub counted_below : (s : List ℕ) (c n : ℕ) → All Below s → All Below (counted s c n)
+pub counted_below : (s : List ℕ) (c n : ℕ) → AllByRecursion Below s → AllByRecursion Below (counted s c n)
 counted_below [] c n g = tt
 counted_below (x ∷ s) zero n g = (omega arith, g.1)
 counted_below (x ∷ s) (suc c) n g = (g.0, counted_below s c n g.1)
 
 -- the inverse takes an add back
-pub counted_back : (s : List ℕ) (c n : ℕ) → All Below s → counted (counted s c n) c (inverse_amount n) ≡ s
+pub counted_back : (s : List ℕ) (c n : ℕ) → AllByRecursion Below s → counted (counted s c n) c (inverse_amount n) ≡ s
 counted_back [] c n g = refl
 counted_back (x ∷ s) zero n g =
     let b : x < 2 ^ 32 = g.0 in
