@@ -7,7 +7,7 @@ A word (a definition, lemma, record field, constructor or local) goes to snake c
 A type goes to camel case: `State-is-serial` is `StateIsSerial`. Only names that the repository itself defines are turned, in the
 .rt and .antt files of crates/ and in the must-fail edits; goals, steps of the code and the library's names keep their dashes. Code is not touched: a Rust
 name has no dash, and a difference is written with spaces. Comments are turned along, since they cite the names.
-It stops, and writes nothing, where two names would fall together or where the library has the old name too.
+Names that would fall together are reported, by --dry before anything is written; there were none. It does not look at the library's names.
 """
 import os
 import re

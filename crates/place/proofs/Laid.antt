@@ -35,8 +35,8 @@ step_div k p h l =
     let s : (p - k) / k + 1 ≡ suc ((p - k) / k) = omega arith in
     ap (λ n. n / k) e ∙ add-div_right (p - k) h ∙ s
 
-step-mod : (k p : ℕ) → k ≤ p → p % k ≡ (p - k) % k
-step-mod k p l = let e : p ≡ p - k + k = omega arith in ap (λ n. n % k) e ∙ add-mod_right (p - k) k
+step_mod : (k p : ℕ) → k ≤ p → p % k ≡ (p - k) % k
+step_mod k p l = let e : p ≡ p - k + k = omega arith in ap (λ n. n % k) e ∙ add-mod_right (p - k) k
 
 -- the place as its cell has it
 abbrev seen : ℕ → Cells → ℕ → List ℕ
@@ -50,7 +50,7 @@ seen_near k v c p l =
 seen_far : (k : ℕ) (v : List ℕ) (c : Cells) (p : ℕ) → 0 < k → k ≤ p → seen k (v ∷ c) p ≡ seen k c (p - k)
 seen_far k v c p z l =
     ap (λ n. take 64 (drop (64 * (p % k)) (get_or (v ∷ c) n []))) (step_div k p z l)
-    ∙ ap (λ n. take 64 (drop (64 * n) (get_or c ((p - k) / k) []))) (step-mod k p l)
+    ∙ ap (λ n. take 64 (drop (64 * n) (get_or c ((p - k) / k) []))) (step_mod k p l)
 
 fewer : (k n p : ℕ) → k ≤ p → p < suc n * k → p - k < n * k
 fewer k n p l h = let e = suc-mul n k in omega arith
@@ -95,7 +95,7 @@ put_near k v c p u l =
 put_far : (k : ℕ) (v : List ℕ) (c : Cells) (p : ℕ) (u : List ℕ) → 0 < k → k ≤ p → put_in k (v ∷ c) p u ≡ v ∷ put_in k c (p - k) u
 put_far k v c p u z l =
     ap (λ n. set (v ∷ c) n (replaced (64 * (p % k)) u (get_or (v ∷ c) n []))) (step_div k p z l)
-    ∙ ap (λ n. v ∷ set c ((p - k) / k) (replaced (64 * n) u (get_or c ((p - k) / k) []))) (step-mod k p l)
+    ∙ ap (λ n. v ∷ set c ((p - k) / k) (replaced (64 * n) u (get_or c ((p - k) / k) []))) (step_mod k p l)
 
 pub set_spread : (k : ℕ) (c : Cells) (p : ℕ) (u : List ℕ) → 0 < k → p < length c * k → Each (64 * k) c → length u ≡ 64 → flat_map (parts k) (put_in k c p u) ≡ set (flat_map (parts k) c) p u
 set_spread k [] p u z h e n = let x = zero-mul k in absurd (omega arith)

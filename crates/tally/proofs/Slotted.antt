@@ -9,7 +9,7 @@ use Rattle.level.specs.SlotTable.{slot_byte, Within, table_ok, table_slots}
 use Rattle.level.specs.Records.{reading_record, record_place}
 use Rattle.level.specs.Levels.{Found, bad, good, live, slot_in, slots_in}
 use Rattle.level.proofs.Live.{slots_at, slots_set}
-use Rattle.level.proofs.Tabled.{slot_set, slot_found, slot_same as byte-same, table_parts}
+use Rattle.level.proofs.Tabled.{slot_set, slot_found, slot_same as byte_same, table_parts}
 use Rattle.tally.specs.declared.TallyOp.{TallyOp}
 use Rattle.tally.specs.CounterBytes.{reading_counters}
 use Rattle.tally.specs.TallyPlaces.{as_undo, undo_at, counters_of, told, tally_reading}
@@ -59,7 +59,7 @@ module _ (ps : List (List ℕ)) (s : List ℕ) (ss : List (Slot TallyOp)) (k : I
   many = length_map_take _ 8 (get_or ps 0 []) (table_parts 8 16 (get_or ps 0 []) k.table).room
 
   pub slot_within : (t : ℕ) → t < 8 → Within 16 (get_or (table_slots 8 16 (get_or ps 0 [])) t Committed)
-  slot_within t h = (byte-same 16 (get_or (get_or ps 0 []) t 0) (get_or (table_slots 8 16 (get_or ps 0 [])) t Committed) (slot_found 8 16 t (get_or ps 0 []) h k.table)).1
+  slot_within t h = (byte_same 16 (get_or (get_or ps 0 []) t 0) (get_or (table_slots 8 16 (get_or ps 0 [])) t Committed) (slot_found 8 16 t (get_or ps 0 []) h k.table)).1
 
   -- the slot of a number, as the table and the records say
   pub slot_here : (t : ℕ) → t < 8 → slot_in undo_at (record_place 16) ps t (get_or (table_slots 8 16 (get_or ps 0 [])) t Committed) ≡ good (slot_at ss t)

@@ -7,7 +7,7 @@ use Rattle.theory.specs.Theory.{Theory, Lawful}
 use Rattle.theory.specs.Slots.{undo_slots}
 use Rattle.theory.specs.Machine.{Limits, Reading, View, Call, Reply, Gives, reading, checked, fresh, recovers, outcome, one_group, Cut, Steps, damaged, intact, ready, dark, due, Begin, Perform, Commit, Abort, Power, Recover, Fate, granted, refused, not_done, done, abort_stopped, recover_stopped, damage_stays, powered, cut}
 use Rattle.theory.specs.History.{Event, History, enter, history}
-use Rattle.theory.specs.Serial.{Serial, fates_told, event, Worked, EveryListIsWorked, Goes_on, RecoveryIsGranted, new, call}
+use Rattle.theory.specs.Serial.{Serial, fates_told, event, Worked, EveryListIsWorked, GoesOn, RecoveryIsGranted, new, call}
 use Rattle.theory.proofs.Invariant.{AwayReading, Invariant, Kept, serial, at_first}
 use Rattle.theory.proofs.Away.{away_power, away_undone, whole, away_any, power_keeps}
 use Rattle.theory.proofs.Ready.{ready_dark}
@@ -87,7 +87,7 @@ module _ {Op Answer : Type 0} (th : Theory Op Answer) (lim : Limits Op th.State)
   pub worked_serial : (past : List (Event Op Answer)) (v : View Op th.State) → Worked th lim past v → Serial th past v
   worked_serial past v w = serial th lim law past v (always w)
 
-  pub goes_on : (v : View Op th.State) (c : Call Op) (reply : Reply (Gives Answer c)) (v' : View Op th.State) → Steps th lim v c reply v' → Goes_on th lim v c reply v'
+  pub goes_on : (v : View Op th.State) (c : Call Op) (reply : Reply (Gives Answer c)) (v' : View Op th.State) → Steps th lim v c reply v' → GoesOn th lim v c reply v'
   goes_on v c reply v' k past w = (call w k, worked_serial (event th c reply v' ∷ past) v' (call w k))
 
   pub recovery_granted : RecoveryIsGranted th lim

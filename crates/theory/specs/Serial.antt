@@ -87,8 +87,8 @@ module _ {Op Answer : Type 0} (th : Theory Op Answer) (lim : Limits Op th.State)
   EveryListIsWorked = (calls : List (Call Op)) → (past : List (Event Op Answer)) × (v : View Op th.State) × Worked past v × (map (λ e. e.call) past ≡ calls)
 
   -- The law as one call carries it: the list of events grows by the call with its answer, and is serial with it.
-  abbrev pub Goes_on : View Op th.State → (c : Call Op) → Reply (Gives Answer c) → View Op th.State → Type 0
-  Goes_on v c reply v' = (past : List (Event Op Answer)) → Worked past v → Worked (event th c reply v' ∷ past) v' × Serial th (event th c reply v' ∷ past) v'
+  abbrev pub GoesOn : View Op th.State → (c : Call Op) → Reply (Gives Answer c) → View Op th.State → Type 0
+  GoesOn v c reply v' = (past : List (Event Op Answer)) → Worked past v → Worked (event th c reply v' ∷ past) v' × Serial th (event th c reply v' ∷ past) v'
 
   -- Recovery of such a manager is granted where power holds: it finds no damage, and each undo record applies.
   abbrev pub RecoveryIsGranted : Type 0
