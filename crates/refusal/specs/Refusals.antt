@@ -1,5 +1,5 @@
 -- The reasons for a refusal by their numbers, and a refusal by its parts.
-use Rattle.std.specs.Prelude.{ℕ}
+use Rattle.std.specs.Prelude.{ℕ, List, ◌∷◌, ◌++◌, decimal}
 use Rattle.refusal.specs.declared.Reason.{Reason}
 use Rattle.refusal.specs.declared.Reason.TheVariants.{Dark, RecoveryDue, OutOfRange, WrongState, LimitReached, Conflict, KeyPresent, KeyAbsent, IndexFull, Damaged, Unreadable, WrongSize}
 use Rattle.refusal.specs.declared.Refusal.{Refusal}
@@ -21,6 +21,10 @@ number WrongSize = 13
 
 abbrev pub refusal : Reason → ℕ → ℕ → Refusal
 refusal r l p = record { reason = r; layer = l; place = p }
+
+-- a refusal as it prints: the reason's number, the layer and the place in decimal, with a space (byte 32) between them
+abbrev pub refusal_text : Refusal → List ℕ
+refusal_text r = decimal (number r.reason) ++ (32 ∷ decimal r.layer) ++ (32 ∷ decimal r.place)
 
 -- the one refusal that comes from every layer alike: the disk is dark after the call
 abbrev pub darkened : Refusal

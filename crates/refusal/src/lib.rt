@@ -1,8 +1,11 @@
 // What every part of a stack shares: why a call is refused, and the phases of a store.
 #![tactic(auto)]
 
-ghost use Rattle.std.specs.Prelude.{◌≡◌};
-ghost use Rattle.refusal.specs.Refusals.{number, refusal};
+ghost use Rattle.std.specs.Prelude.{◌≡◌, Some};
+ghost use Rattle.refusal.specs.Refusals.{number, refusal, refusal_text};
+
+use std::error::Error;
+use std::fmt;
 
 // Why a call is refused. The numbers are the ones that scripts print; 10 is not in use.
 #[derive(Clone, Copy, PartialEq, Eq, Debug)]
@@ -33,11 +36,11 @@ pub enum Reason {
     WrongSize = 13,
 }
 
-impl Reason {
-    pub fn number(self) -> u8
-        ensures { result ≡ number self }
-    {
-        self as u8
+impl From<Reason> for u8 {
+    ghost from_gives = { λ reason n. n ≡ number reason };
+
+    fn from(reason: Reason) -> u8 {
+        reason as u8
     }
 }
 
@@ -60,6 +63,16 @@ impl Refusal {
         }
     }
 }
+
+impl fmt::Display for Refusal {
+    ghost output = { λ refused. Some (refusal_text refused) };
+
+    fn fmt<W: fmt::Write>(&self, f: &mut fmt::Formatter<W>) -> fmt::Result {
+        write!(f, "{} {} {}", u8::from(self.reason), self.layer, self.place)
+    }
+}
+
+impl Error for Refusal {}
 
 // Where a store stands.
 #[derive(Clone, Copy, PartialEq, Eq, Debug)]
