@@ -1,13 +1,17 @@
 -- The round trip of a code through its bytes, and what its reader knows. Assumes nothing.
 use Rattle.std.proofs.Common.{◌≡◌, ℕ, ◌^◌, ◌<◌, ◌≤◌, List, [], ◌∷◌, ◌++◌, length, Some, None, Option, sym, refl, ap, ◌∙◌, subst, append_assoc, arith}
+use Rattle.std.specs.Prelude.{Result}
+use Rattle.std.specs.Option.{ok_or}
+use Rattle.std.specs.Result.{result_ok}
 use Rattle.std.proofs.lemmas.List.{length-append}
 use Rattle.std.proofs.lemmas.Bool.Decides.{nat_tests}
 use Rattle.number.specs.declared.Kind.{Kind}
 use Rattle.number.specs.declared.Kind.TheVariants as kind
+use Rattle.number.specs.declared.UnknownKind.{UnknownKind}
 use Rattle.number.specs.declared.Code.{Code}
 use Rattle.number.specs.declared.Code.TheVariants as code
 use Rattle.number.specs.Bytes.{Sound, Exact}
-use Rattle.number.specs.Codes.{kind_number, kind_of, numbers, code_bytes, Small, kind_at, then_read, code_of, with_kind, reading_code}
+use Rattle.number.specs.Codes.{kind_number, kind_of, numbers, code_bytes, Small, kind_at, kind_or_byte, then_read, code_of, with_kind, reading_code}
 use Rattle.number.specs.Leb.{leb, reading}
 use Rattle.number.specs.Parts.{Follows, numbers_then}
 use Rattle.number.proofs.Numbers.{reading_leb, leb_short, exact_from}
@@ -52,6 +56,17 @@ kind_from b kind.Read e = grind (arith, nat_tests)
 kind_from b kind.Set e = grind (arith, nat_tests)
 kind_from b kind.Load e = grind (arith, nat_tests)
 
+-- the kind that a byte was read as
+pub kind_read : (b : ℕ) {o : Option Kind} {r : Result Kind UnknownKind} → o ≡ result_ok r → r ≡ kind_or_byte b → o ≡ kind_at b
+kind_read b e f = e ∙ ap result_ok f ∙ go (kind_at b)
+  where
+    unknown : UnknownKind
+    unknown = record { 0 = b }
+
+    go : (o : Option Kind) → result_ok (ok_or o unknown) ≡ o
+    go None = refl
+    go (Some k) = refl
+
 together : (c : Code) (rest : List ℕ) → numbers_then c rest ≡ numbers c ++ rest
 together (code.Put key value) rest = sym (append_assoc (leb key) (leb value) rest)
 together (code.Del key) rest = refl
@@ -92,8 +107,17 @@ coded_then b bs k n after (Some (c, rest)) e f is value sound = record {
 pub coded_at : {bytes bs : List ℕ} {o : Option (Code × List ℕ)} → bytes ≡ bs → Coded bs o → Coded bytes o
 coded_at {o = o} e k = subst (λ l. Coded l o) (sym e) k
 
-pub coded_exact : (bs : List ℕ) (o : Option (Code × List ℕ)) → Coded bs o → Exact Small code_bytes bs o
-coded_exact bs o k = exact_from Small code_bytes reading_code reading_code_bytes bs o k.value k.sound
+-- all that the reader promises
+abbrev pub Known : List ℕ → Option (Code × List ℕ) → Type 0
+Known bs o = record {
+  value : o ≡ reading_code bs;
+  exact : Exact Small code_bytes bs o;
+  back : (c : Code) (rest : List ℕ) → Small c → bs ≡ code_bytes c ++ rest → o ≡ Some (c, rest);
+}
 
-pub coded_back : (bs : List ℕ) (o : Option (Code × List ℕ)) → Coded bs o → (c : Code) (rest : List ℕ) → Small c → bs ≡ code_bytes c ++ rest → o ≡ Some (c, rest)
-coded_back bs o k c rest small e = k.value ∙ ap reading_code e ∙ reading_code_bytes c rest small
+pub known : {bs : List ℕ} {o : Option (Code × List ℕ)} → Coded bs o → Known bs o
+known {bs = bs} {o = o} k = record {
+  value = k.value;
+  exact = exact_from Small code_bytes reading_code reading_code_bytes bs o k.value k.sound;
+  back = λ c rest small e. k.value ∙ ap reading_code e ∙ reading_code_bytes c rest small;
+}

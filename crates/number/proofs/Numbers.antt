@@ -2,6 +2,7 @@
 use Rattle.std.proofs.Common.{◌≡◌, ℕ, zero, suc, ◌+◌, ◌-◌, ◌*◌, ◌/◌, ◌%◌, ◌^◌, ◌<◌, ◌≤◌, eqb, ltb, leb as leb≤, List, [], ◌∷◌, ◌++◌, length, Some, None, Option, sym, refl, ap, ◌∙◌, subst, ⊎_elim, arith}
 use Rattle.std.proofs.lemmas.Bool.Decides.{nat_tests}
 use Rattle.std.proofs.lemmas.Bool.{cond-true, cond-false, cond_both, lt-ltb, le-ltb, le-leb, lt-leb, ne_eqb, eq-eqb, cases_lt, cases_eq}
+use Rattle.std.proofs.lemmas.Option.{none-some}
 use Rattle.std.specs.List.{AllByRecursion}
 use Rattle.number.specs.Bytes.{Sound, Exact}
 use Rattle.number.specs.Leb.{lebs, leb, groups_of, carried, reading_in, reading, room}
@@ -87,15 +88,11 @@ pub length_leb : (n : ℕ) → length (leb n) ≡ groups_of n
 unfolding leb lebs
 length_leb n = grind (arith, nat_tests)
 
--- nothing is not something
-none_some : {A : Type 0} (x : A) → ◌≡◌ {A = Option A} None (Some x) → ⊥
-none_some x e = let z : ◌≡◌ {A = ℕ} 0 1 = cc in omega arith
-
 -- a reader that finds again what is written, and whose answers are sound, answers exactly
 pub exact_from : {A : Type 0} (fit : A → Type 0) (bytes : A → List ℕ) (read : List ℕ → Option (A × List ℕ))
     → ((x : A) (rest : List ℕ) → fit x → read (bytes x ++ rest) ≡ Some (x, rest))
     → (bs : List ℕ) (o : Option (A × List ℕ)) → o ≡ read bs → Sound fit bytes bs o → Exact fit bytes bs o
-exact_from fit bytes read again bs None value sound = λ x rest f e. none_some (x, rest) (value ∙ ap read e ∙ again x rest f)
+exact_from fit bytes read again bs None value sound = λ x rest f e. none-some (x, rest) (value ∙ ap read e ∙ again x rest f)
 exact_from fit bytes read again bs (Some (x, rest)) value sound = sound
 
 -- the parts of what is read
@@ -108,10 +105,10 @@ same_read b n bs rest e =
 carried_from : (k b n : ℕ) (bs rest : List ℕ) → 128 ≤ b → b < 256 → (o : Option (ℕ × List ℕ))
     → ((m : ℕ) (after : List ℕ) → o ≡ Some (m, after) → (m < room k) × (bs ≡ lebs k m ++ after))
     → carried b o ≡ Some (n, rest) → (n < room (suc k)) × (b ∷ bs ≡ lebs (suc k) n ++ rest)
-carried_from k b n bs rest lo hi None inner e = absurd (none_some (n, rest) e)
+carried_from k b n bs rest lo hi None inner e = absurd (none-some (n, rest) e)
 carried_from k b n bs rest lo hi (Some (m, after)) inner e =
     ⊎_elim
-    (λ z. absurd (none_some (n, rest) (sym (cond-true (eqb m 0) None (Some (b - 128 + 128 * m, after)) (eq-eqb m 0 z)) ∙ e)))
+    (λ z. absurd (none-some (n, rest) (sym (cond-true (eqb m 0) None (Some (b - 128 + 128 * m, after)) (eq-eqb m 0 z)) ∙ e)))
     (λ z.
     let up : 0 < m = omega arith in
     let same = same_read (b - 128 + 128 * m) n after rest (sym (carries b m after up) ∙ e) in
@@ -124,14 +121,14 @@ carried_from k b n bs rest lo hi (Some (m, after)) inner e =
 from_reading_in : (k : ℕ) (bs : List ℕ) → AllByRecursion (λ b. b < 256) bs → (n : ℕ) (rest : List ℕ) → reading_in k bs ≡ Some (n, rest)
     → (n < room k) × (bs ≡ lebs k n ++ rest)
 unfolding reading_in lebs
-from_reading_in zero [] all n rest e = absurd (none_some (n, rest) e)
-from_reading_in (suc k) [] all n rest e = absurd (none_some (n, rest) e)
+from_reading_in zero [] all n rest e = absurd (none-some (n, rest) e)
+from_reading_in (suc k) [] all n rest e = absurd (none-some (n, rest) e)
 from_reading_in zero (b ∷ bs) all n rest e =
     ⊎_elim
     (λ lo.
     let same = same_read b n bs rest (sym (cond-true (leb≤ b 15) (Some (b, bs)) None (le-leb b 15 (omega arith))) ∙ e) in
     (omega (arith, same.0), ap (λ x. x ∷ bs) same.0 ∙ ap (λ l. n ∷ l) same.1))
-    (λ hi. absurd (none_some (n, rest) (sym (cond-false (leb≤ b 15) (Some (b, bs)) None (lt-leb b 15 hi)) ∙ e)))
+    (λ hi. absurd (none-some (n, rest) (sym (cond-false (leb≤ b 15) (Some (b, bs)) None (lt-leb b 15 hi)) ∙ e)))
     (cases_lt b 16)
 from_reading_in (suc k) (b ∷ bs) all n rest e =
     ⊎_elim

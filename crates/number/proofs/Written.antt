@@ -1,70 +1,102 @@
 -- What one byte more leaves of a number to be written, and writes one after the other. Assumes nothing.
-use Rattle.std.proofs.Common.{◌≡◌, ℕ, zero, suc, ◌+◌, ◌*◌, ◌/◌, ◌%◌, ◌^◌, ◌<◌, ◌≤◌, true, leb as leb≤, List, [], ◌∷◌, ◌++◌, length, take, drop, set, Some, None, Option, sym, refl, ap, ◌∙◌, append_assoc, add-one, arith}
-use Rattle.std.proofs.lemmas.Bool.{leb-true}
-use Rattle.std.proofs.lemmas.List.{take_more_set, drop-set-lt, drop-drop, set_split, take_at, drop_at, length-append, length-take-le, length-drop}
+use Rattle.std.proofs.Common.{◌≡◌, ℕ, zero, suc, ◌+◌, ◌-◌, ◌*◌, ◌/◌, ◌%◌, ◌^◌, ◌<◌, ◌≤◌, true, leb as leb≤, List, [], ◌∷◌, ◌++◌, length, take, drop, set, Some, None, Option, sym, refl, ap, ◌∙◌, append_assoc, add-one, arith, ⊎_elim}
+use Rattle.std.proofs.lemmas.Bool.{leb-true, cases_lt}
+use Rattle.std.proofs.lemmas.List.{take_more_set, drop-drop, set_split, take_all, take_at, drop_at, length-append, length-take-le, length-drop}
+use Rattle.std.proofs.lemmas.Slice.{take-put_mid, drop-put_mid}
+use borrow.Rule.Slice.PartMut.{put_mid, same_len_mid}
 use Rattle.number.specs.Bytes.{Written}
 use Rattle.number.specs.Leb.{lebs, leb}
-use Rattle.number.proofs.Numbers.{lebs_small, lebs_large, lebs_some}
+use Rattle.number.proofs.Numbers.{lebs_small, lebs_large, lebs_some, leb_some}
 
 -- what fits k + 1 bytes
 abbrev full : ℕ → ℕ
 full zero = 128
 full (suc k) = 128 * full k
 
--- `new` holds the front of n's bytes up to `end`, and of these what is to come are those of `left`
-pub record Going (n at : ℕ) (old : List ℕ) (left end : ℕ) (new : List ℕ) : Type 0 where
+-- the first i of these bytes, and then the bytes of what is left, are the bytes of n
+pub record Going (n left i : ℕ) (front : List ℕ) : Type 0 where
   pub more : ℕ
   pub fits : left < full more
-  pub front : take end new ++ lebs more left ≡ take at old ++ leb n
-  pub back : drop end new ≡ drop end old
-  pub reach : end + length (lebs more left) ≡ at + length (leb n)
+  pub whole : take i front ++ lebs more left ≡ leb n
+  pub reach : i + length (lebs more left) ≡ length (leb n)
 
-pub start : (n at : ℕ) (old : List ℕ) → n < 2 ^ 32 → Going n at old n at old
+pub start : (n : ℕ) (front : List ℕ) → n < 2 ^ 32 → Going n n 0 front
 unfolding leb
-start n at old h = record { more = 4; fits = omega arith; front = refl; back = refl; reach = refl }
+start n front h = record { more = 4; fits = omega arith; whole = refl; reach = omega arith }
 
-back_more : (old new : List ℕ) (end b : ℕ) → drop end new ≡ drop end old → drop (end + 1) (set new end b) ≡ drop (end + 1) old
-back_more old new end b e =
-    drop-set-lt (end + 1) new end b (omega arith) ∙ sym (drop-drop 1 end new) ∙ ap (drop 1) e ∙ drop-drop 1 end old
-
-pub again : (n at : ℕ) (old : List ℕ) (left end : ℕ) (new : List ℕ) → 128 ≤ left → end < length new → Going n at old left end new
-    → Going n at old (left / 128) (end + 1) (set new end (left % 128 + 128))
-again n at old left end new big within g = go g.more g.fits g.front g.reach
+-- one byte more, where it is not the last
+pub again : (n left i : ℕ) (front : List ℕ) → i < length front → i + 1 < length (leb n) → Going n left i front
+    → Going n (left / 128) (i + 1) (set front i (left % 128 + 128))
+again n left i front within more g = go g.more g.fits g.whole g.reach
   where
-    go : (k : ℕ) → left < full k → take end new ++ lebs k left ≡ take at old ++ leb n → end + length (lebs k left) ≡ at + length (leb n)
-        → Going n at old (left / 128) (end + 1) (set new end (left % 128 + 128))
-    go zero fits front reach = absurd (omega arith)
-    go (suc k) fits front reach = record {
+    go : (k : ℕ) → left < full k → take i front ++ lebs k left ≡ leb n → i + length (lebs k left) ≡ length (leb n)
+        → Going n (left / 128) (i + 1) (set front i (left % 128 + 128))
+    go zero fits whole reach = absurd (omega (arith, ap length (lebs_small 0 left fits)))
+    go (suc k) fits whole reach = record {
       more = k;
       fits = omega arith;
-      front = ap (λ l. l ++ lebs k (left / 128)) (take_more_set new end (left % 128 + 128) within ∙ ap (λ x. take end new ++ x ∷ []) swap) ∙ append_assoc (take end new) _ _ ∙ ap (λ l. take end new ++ l) (sym whole) ∙ front;
-      back = back_more old new end _ g.back;
-      reach = omega (arith, ap length whole);
+      whole = ap (λ l. l ++ lebs k (left / 128)) (take_more_set front i (left % 128 + 128) within ∙ ap (λ x. take i front ++ x ∷ []) swap)
+          ∙ append_assoc (take i front) _ _ ∙ ap (λ l. take i front ++ l) (sym cut) ∙ whole;
+      reach = omega (arith, ap length cut);
     }
       where
-        whole : lebs (suc k) left ≡ (128 + left % 128) ∷ lebs k (left / 128)
-        whole = lebs_large k left big
+        large : 128 ≤ left
+        large = ⊎_elim (λ lo. absurd (omega (arith, ap length (lebs_small (suc k) left lo)))) (λ hi. hi) (cases_lt left 128)
+
+        cut : lebs (suc k) left ≡ (128 + left % 128) ∷ lebs k (left / 128)
+        cut = lebs_large k left large
 
         swap : left % 128 + 128 ≡ 128 + left % 128
         swap = omega arith
 
--- there is a byte to come, and room for it
-pub inside : (n at : ℕ) (old : List ℕ) (left end : ℕ) (new : List ℕ) (len : ℕ) → len ≡ length (leb n) → true ≡ leb≤ (at + len) (length old)
-    → length new ≡ length old → Going n at old left end new → end < length new
-inside n at old left end new len is room same g = omega (arith, g.reach, lebs_some g.more left, leb-true (at + len) (length old) (sym room))
+-- what is left for the last byte fits it
+pub last_fits : {n left i : ℕ} {front : List ℕ} → length (leb n) ≤ i + 1 → Going n left i front → left < 128
+last_fits {n = n} {left = left} {i = i} {front = front} end g = go g.more g.fits g.reach
+  where
+    go : (k : ℕ) → left < full k → i + length (lebs k left) ≡ length (leb n) → left < 128
+    go zero fits reach = fits
+    go (suc k) fits reach =
+        ⊎_elim (λ lo. lo) (λ hi. absurd (omega (arith, ap length (lebs_large k left hi), lebs_some k (left / 128)))) (cases_lt left 128)
 
--- the last byte
-pub done : (n at : ℕ) (old : List ℕ) (left end : ℕ) (new : List ℕ) → left < 128 → end < length new → length new ≡ length old
-    → Going n at old left end new → Written (leb n) at old (set new end left) (Some (end + 1))
-done n at old left end new small within same g =
-    let last : lebs g.more left ≡ left ∷ [] = lebs_small g.more left small in (
-      omega (arith, g.reach, ap length last),
-      omega arith,
-      set_split new end left within ∙ sym (append_assoc (take end new) (left ∷ []) (drop (suc end) new))
-          ∙ ap (λ l. (take end new ++ l) ++ drop (suc end) new) (sym last)
-          ∙ ap (λ l. l ++ drop (suc end) new) g.front
-          ∙ append_assoc (take at old) (leb n) _
-          ∙ ap (λ l. take at old ++ (leb n ++ l)) (ap (λ i. drop i new) (sym (add-one end)) ∙ sym (drop-drop 1 end new) ∙ ap (drop 1) g.back ∙ drop-drop 1 end old),
+-- n takes len bytes, and there is room for them
+pub record Place (n at len : ℕ) (old : List ℕ) : Type 0 where
+  pub is : len ≡ length (leb n)
+  pub room : at + len ≤ length old
+
+pub place : {n at len : ℕ} {old : List ℕ} → len ≡ length (leb n) → true ≡ leb≤ (at + len) (length old) → Place n at len old
+place {at = at} {len = len} {old = old} is room = record { is = is; room = leb-true (at + len) (length old) (sym room) }
+
+-- the part of `old` that holds all bytes but the last
+pub part_long : {n at len : ℕ} {old : List ℕ} → Place n at len old → length (take (at + len - 1 - at) (drop at old)) + 1 ≡ length (leb n)
+part_long {n = n} {at = at} {len = len} {old = old} p =
+    omega (arith, p.is, p.room, leb_some n, length-drop at old, length-take-le (at + len - 1 - at) (drop at old) (omega (arith, p.room, length-drop at old)))
+
+-- the last byte is in reach
+pub inside : {n at len : ℕ} {old : List ℕ} (front : List ℕ) → Place n at len old → length front + 1 ≡ length (leb n)
+    → at + len - 1 < length (put_mid at (at + len - 1 - at) old front)
+inside {n = n} {at = at} {len = len} {old = old} front p long =
+    let m = at + len - 1 - at in
+    omega (arith, p.is, p.room, leb_some n, same_len_mid at m old front (omega (arith, p.is, leb_some n, long, part_long p)))
+
+-- the front put in its place, and the last byte behind it
+pub done : (n at len left i : ℕ) (old front : List ℕ) → Place n at len old → length front + 1 ≡ length (leb n) → length front ≤ i → Going n left i front
+    → Written (leb n) at old (set (put_mid at (at + len - 1 - at) old front) (at + len - 1) left) (Some (at + len))
+done n at len left i old front p long all g =
+    let m = at + len - 1 - at in
+    let e = at + len - 1 in
+    let now = put_mid at m old front in
+    let before : take e now ≡ take at old ++ front = take-put_mid at m old front e (omega (arith, p.is)) (omega (arith, p.room)) in
+    let step : suc e ≡ at + len = omega (arith, p.is, leb_some n) in
+    let after : drop (suc e) now ≡ drop (at + len) old =
+    drop-put_mid at m old front (suc e) (omega (arith, p.is, leb_some n)) (omega (arith, p.room)) (omega (arith, p.is)) ∙ ap (λ j. drop j old) step in
+    let whole : front ++ left ∷ [] ≡ leb n =
+    ap (λ l. l ++ left ∷ []) (sym (take_all i front all)) ∙ ap (λ l. take i front ++ l) (sym (lebs_small g.more left (last_fits (omega arith) g))) ∙ g.whole in (
+      ap (λ l. at + l) p.is,
+      p.room,
+      set_split now e left (inside front p long)
+          ∙ ap (λ l. l ++ left ∷ drop (suc e) now) before ∙ ap (λ l. (take at old ++ front) ++ left ∷ l) after
+          ∙ append_assoc (take at old) front _
+          ∙ ap (λ l. take at old ++ l) (sym (append_assoc front (left ∷ []) _) ∙ ap (λ l. l ++ drop (at + len) old) whole),
     )
 
 -- one byte

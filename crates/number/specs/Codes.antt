@@ -1,7 +1,9 @@
 -- Operations as bytes, as undo records hold them: a byte for the kind, and then the numbers of the operation.
-use Rattle.std.specs.Prelude.{ℕ, ◌^◌, ◌<◌, cond, List, [], ◌∷◌, ◌++◌, Some, None, Option, ◌==◌}
+use Rattle.std.specs.Prelude.{ℕ, ◌^◌, ◌<◌, cond, List, [], ◌∷◌, ◌++◌, Some, None, Option, Result, ◌==◌}
+use Rattle.std.specs.Option.{ok_or}
 use Rattle.number.specs.declared.Kind.{Kind}
 use Rattle.number.specs.declared.Kind.TheVariants as kind
+use Rattle.number.specs.declared.UnknownKind.{UnknownKind}
 use Rattle.number.specs.declared.Code.{Code}
 use Rattle.number.specs.declared.Code.TheVariants as code
 use Rattle.number.specs.Leb.{leb, reading}
@@ -51,6 +53,10 @@ abbrev pub kind_at : ℕ → Option Kind
 kind_at b =
     cond (b == 1) (Some kind.Put) (cond (b == 2) (Some kind.Del) (cond (b == 3) (Some kind.Get) (cond (b == 4) (Some kind.Add)
     (cond (b == 5) (Some kind.Read) (cond (b == 6) (Some kind.Set) (cond (b == 7) (Some kind.Load) None))))))
+
+-- the kind of that number, or the byte that is no kind's
+abbrev pub kind_or_byte : ℕ → Result Kind UnknownKind
+kind_or_byte b = ok_or (kind_at b) (record { 0 = b })
 
 -- goes on with what was read
 abbrev pub then_read : {A B : Type 0} → Option (A × List ℕ) → (A → List ℕ → Option (B × List ℕ)) → Option (B × List ℕ)

@@ -4,3 +4,4 @@ pub mod Examples
 pub mod Leb
 pub mod Parts
 pub mod Reads
+pub mod Zeros

@@ -1,14 +1,18 @@
 // Numbers below 2^32 as bytes, in the shortest form of LEB128, and operations as bytes made of a kind and such numbers.
 #![tactic(auto)]
 
-ghost use Rattle.std.specs.Prelude.{◌≡◌, ℕ, ◌+◌, ◌*◌, ◌^◌, ◌<◌, ◌≤◌, leb as leb≤, List, ◌++◌, length, Some, MatchOption};
+ghost use Rattle.std.specs.Prelude.{◌≡◌, ℕ, ◌+◌, ◌*◌, ◌^◌, ◌<◌, ◌≤◌, leb as leb≤, List, ◌++◌, length, Some, MatchOption, codes, decimal};
 ghost use Rattle.std.specs.List.{AllByRecursion};
 ghost use Rattle.number.specs.Bytes.{held, Exact, Written};
-ghost use Rattle.number.specs.Codes.{kind_number, kind_of, kind_at, numbers, code_bytes, code_of, reading_code, Small};
+ghost use Rattle.number.specs.Codes.{kind_number, kind_of, kind_or_byte, numbers, code_bytes, code_of, reading_code, Small};
 ghost use Rattle.number.specs.Examples.{examples, Holds};
-ghost use Rattle.number.specs.Leb.{leb, groups_of, reading};
+ghost use Rattle.number.specs.Leb.{leb, reading};
 ghost use Rattle.number.specs.Parts.{Follows, one_or_two};
 ghost use Rattle.number.specs.Reads.{Got, Grouped};
+ghost use Rattle.number.specs.Zeros.{zeros};
+
+use std::error::Error;
+use std::fmt;
 
 // The number that `bytes` begin with and what follows it; None where no number below 2^32 in its shortest form stands there.
 pub fn read_number(bytes: &[u8]) -> Option<(u32, &[u8])>
@@ -24,17 +28,14 @@ fn read_at_most(bytes: &[u8], left: u8) -> Option<(u32, &[u8])>
     requires { left ≤ 4 }
     ensures { Got left bytes.now (held result) }
 {
-    let [byte, rest @ ..] = bytes else {
-        return None;
-    };
-    match group_of(*byte, left) {
-        Group::Last(n) => Some((n as u32, rest)),
+    let (byte, rest) = bytes.split_first()?;
+    match group_of(*byte, left)? {
+        Group::Last(n) => Some((u32::from(n), rest)),
         Group::More(low) => {
             let (high, rest) = read_at_most(rest, left - 1)?;
             let n = joined(low, high)?;
             Some((n, rest))
         }
-        Group::TooLarge => None,
     }
 }
 
@@ -45,19 +46,17 @@ enum Group {
     Last(u8),
     // seven bits, with higher ones in the next byte
     More(u8),
-    // bits past the 32nd
-    TooLarge,
 }
 
-// What the byte says, where at most `left` more may come after it.
-fn group_of(byte: u8, left: u8) -> Group
+// What the byte says, where at most `left` more may come after it; None where it has bits past the 32nd.
+fn group_of(byte: u8, left: u8) -> Option<Group>
     ensures { Grouped left byte result }
 {
     match byte {
         // the fifth byte has the top four bits alone
-        top if left == 0 && top > 0x0f => Group::TooLarge,
-        last if last < 0x80 => Group::Last(last),
-        more => Group::More(more - 0x80),
+        top if left == 0 && top > 0x0f => None,
+        last if last < 0x80 => Some(Group::Last(last)),
+        more => Some(Group::More(more - 0x80)),
     }
 }
 
@@ -66,22 +65,13 @@ fn joined(low: u8, high: u32) -> Option<u32>
     requires { (low < 2 ^ 7) × (high < 2 ^ 25) }
     ensures { MatchOption result (high ≡ 0) (λ n. (0 < high) × (n ≡ low + 2 ^ 7 * high)) }
 {
-    if high == 0 {
-        return None;
-    }
-    Some(low as u32 + 0x80 * high)
+    (high != 0).then_some(u32::from(low) + 0x80 * high)
 }
 
-// How many bytes `n` takes.
+// How many bytes `n` takes: one for each group of seven bits.
+#[tactic(auto, using(crate::proofs::Numbers::length_leb))]
 pub fn number_len(n: u32) -> usize
     ensures { result ≡ length (leb n) }
-{
-    groups(n)
-}
-
-// How many groups of seven bits hold `n`.
-fn groups(n: u32) -> usize
-    ensures { result ≡ groups_of n }
 {
     match n {
         0..=0x7f => 1,
@@ -93,21 +83,23 @@ fn groups(n: u32) -> usize
 }
 
 // Writes `n` into `out` from `at` on, and says where it ends; None, and `out` unchanged, where there is no room.
+// A place past the end of `out` is answered None too; with a slice from `at` on, each caller would have to test first.
+#[tactic(auto, using(crate::proofs::Numbers::leb_some))]
 pub fn write_number(n: u32, out: &mut [u8], at: usize) -> Option<usize>
     ensures { Written (leb n) at out.old out.new result }
 {
-    if !has_room(number_len(n), at, out.len()) {
+    let len = number_len(n);
+    if !has_room(len, at, out.len()) {
         return None;
     }
+    let end = at + len;
     let mut left = n;
-    let mut end = at;
-    while left >= 0x80 {
-        out[end] = (left % 0x80) as u8 + 0x80;
+    for byte in &mut out[at..end - 1] {
+        *byte = (left % 0x80) as u8 + 0x80;
         left /= 0x80;
-        end += 1;
     }
-    out[end] = left as u8;
-    Some(end + 1)
+    out[end - 1] = left as u8;
+    Some(end)
 }
 
 // Whether `len` bytes from `at` on end within `size`. No sum: it could pass the largest `usize`.
@@ -115,6 +107,13 @@ fn has_room(len: usize, at: usize, size: usize) -> bool
     ensures { result ≡ leb≤ (at + len) size }
 {
     at <= size && len <= size - at
+}
+
+// Whether nothing but zeros stands there.
+pub fn only_zeros(bytes: &[u8]) -> bool
+    ensures { result ≡ zeros bytes.now }
+{
+    bytes.iter().all(|byte| *byte == 0)
 }
 
 // What an operation does. The number is its byte in a code.
@@ -129,25 +128,43 @@ pub enum Kind {
     Load = 7,
 }
 
-impl Kind {
-    pub fn number(self) -> u8
-        ensures { result ≡ kind_number self }
-    {
-        self as u8
-    }
+impl From<Kind> for u8 {
+    ghost from_gives = { λ kind byte. byte ≡ kind_number kind };
 
-    fn from_byte(byte: u8) -> Option<Kind>
-        ensures { result ≡ kind_at byte }
-    {
+    fn from(kind: Kind) -> u8 {
+        kind as u8
+    }
+}
+
+// A byte that is the number of no kind.
+#[derive(Clone, Copy, PartialEq, Eq, Debug)]
+pub struct UnknownKind(pub u8);
+
+impl fmt::Display for UnknownKind {
+    ghost output = { λ e. Some (codes "no operation has the number " ++ decimal e.0) };
+
+    fn fmt<W: fmt::Write>(&self, f: &mut fmt::Formatter<W>) -> fmt::Result {
+        write!(f, "no operation has the number {}", self.0)
+    }
+}
+
+impl Error for UnknownKind {}
+
+impl TryFrom<u8> for Kind {
+    type Error = UnknownKind;
+
+    ghost try_from_gives = { λ byte read. read ≡ kind_or_byte byte };
+
+    fn try_from(byte: u8) -> Result<Kind, UnknownKind> {
         match byte {
-            1 => Some(Kind::Put),
-            2 => Some(Kind::Del),
-            3 => Some(Kind::Get),
-            4 => Some(Kind::Add),
-            5 => Some(Kind::Read),
-            6 => Some(Kind::Set),
-            7 => Some(Kind::Load),
-            _ => None,
+            1 => Ok(Kind::Put),
+            2 => Ok(Kind::Del),
+            3 => Ok(Kind::Get),
+            4 => Ok(Kind::Add),
+            5 => Ok(Kind::Read),
+            6 => Ok(Kind::Set),
+            7 => Ok(Kind::Load),
+            _ => Err(UnknownKind(byte)),
         }
     }
 }
@@ -193,14 +210,12 @@ impl Code {
     }
 
     // How many bytes it takes.
+    #[tactic(auto, using(crate::proofs::Numbers::leb_short))]
     fn len(self) -> usize
         ensures { result ≡ length (code_bytes self) }
     {
         let (first, second) = self.numbers();
-        match second {
-            Some(second) => 1 + number_len(first) + number_len(second),
-            None => 1 + number_len(first),
-        }
+        1 + number_len(first) + second.map_or(0, number_len)
     }
 }
 
@@ -213,7 +228,7 @@ pub fn read_code(bytes: &[u8]) -> Option<(Code, &[u8])>
     let [byte, rest @ ..] = bytes else {
         return None;
     };
-    let kind = Kind::from_byte(*byte)?;
+    let kind = Kind::try_from(*byte).ok()?;
     let (first, rest) = read_number(rest)?;
     finish_code(kind, first, rest)
 }
@@ -255,7 +270,7 @@ pub fn write_code(code: Code, out: &mut [u8], at: usize) -> Option<usize>
         return None;
     }
     let (first, second) = code.numbers();
-    out[at] = code.kind().number();
+    out[at] = u8::from(code.kind());
     let end = write_number(first, out, at + 1)?;
     match second {
         Some(second) => write_number(second, out, end),
@@ -264,8 +279,7 @@ pub fn write_code(code: Code, out: &mut [u8], at: usize) -> Option<usize>
 }
 
 // The table of examples holds, row by row.
-pub fn examples_hold() -> u8
+#[tactic(auto, using(crate::proofs::Table::all_hold))]
+pub fn examples_hold()
     ensures { AllByRecursion Holds examples }
-{
-    0
-}
+{}

@@ -1,27 +1,27 @@
-use Rattle.std.proofs.Common.{◌<◌, length, arith}
-use Rattle.number.proofs.Written.{start, again, inside, done}
+use Rattle.std.proofs.Common.{◌≡◌, ◌+◌, length, arith}
+use Rattle.number.specs.Leb.{leb}
+use Rattle.number.proofs.Written.{place, start, again, last_fits, part_long, inside, done}
 use Rattle.number.proofs.write_number.Goals as goal
-use Rattle.number.proofs.write_number.Goals.{In-loop-left, After-loop-left}
+use Rattle.number.proofs.write_number.Goals.{After-loop-byte}
 
-pub loop-left-init : goal.loop-left-init
-loop-left-init c = start c.args.n c.args.at c.args.out.now (omega arith)
+pub loop-byte-init : goal.loop-byte-init
+loop-byte-init c = start c.args.n _ (omega arith)
 
-in_turn : (c : In-loop-left) → c.loop-left.end < length c.loop-left.out
-in_turn c = inside c.args.n c.args.at c.args.out.now c.loop-left.left c.loop-left.end c.loop-left.out c.number_len.result c.number_len.ensures c.if-not-has_room.ensures c.loop-left.auto.out c.loop-left.invariant
+pub loop-byte-preserved : goal.loop-byte-preserved
+loop-byte-preserved c =
+    let long = part_long (place c.number_len-len.ensures c.if-not-has_room.ensures) in
+    again c.args.n c.loop-byte.left c.loop-byte.byte-index c.loop-byte.byte-items (omega arith) (omega arith) c.loop-byte.invariant
+
+front_long : (c : After-loop-byte) → length c.loop-byte.byte-items + 1 ≡ length (leb c.args.n)
+front_long c = let long = part_long (place c.number_len-len.ensures c.if-not-has_room.ensures) in omega arith
+
+pub overflow_cast-out : goal.overflow_cast-out
+overflow_cast-out c = let fits = last_fits (omega (arith, front_long (goal.at.overflow_cast-out c).After-loop-byte)) c.loop-byte.invariant in omega arith
 
 pub bounds-out-end : goal.bounds-out-end
-bounds-out-end c = in_turn c
-
-pub loop-left-preserved : goal.loop-left-preserved
-loop-left-preserved c =
-    again c.args.n c.args.at c.args.out.now c.loop-left.left c.loop-left.end c.loop-left.out (omega arith) (in_turn c) c.loop-left.invariant
-
-at_last : (c : After-loop-left) → c.loop-left.end < length c.loop-left.out
-at_last c = inside c.args.n c.args.at c.args.out.now c.loop-left.left c.loop-left.end c.loop-left.out c.number_len.result c.number_len.ensures c.if-not-has_room.ensures c.loop-left.auto.out c.loop-left.invariant
-
-pub bounds-out-end-2 : goal.bounds-out-end-2
-bounds-out-end-2 c = at_last c
+bounds-out-end c = inside c.loop-byte.byte-items (place c.number_len-len.ensures c.if-not-has_room.ensures) (front_long (goal.at.bounds-out-end c).After-loop-byte)
 
 pub returns : goal.returns
 returns c =
-    done c.args.n c.args.at c.args.out.now c.loop-left.left c.loop-left.end c.loop-left.out (omega arith) (at_last c) c.loop-left.auto.out c.loop-left.invariant
+    done c.args.n c.args.at c.number_len-len.result c.loop-byte.left c.loop-byte.byte-index c.args.out.now c.loop-byte.byte-items
+    (place c.number_len-len.ensures c.if-not-has_room.ensures) (front_long (goal.at.returns c).After-loop-byte) (omega arith) c.loop-byte.invariant

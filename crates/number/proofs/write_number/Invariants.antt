@@ -1,8 +1,5 @@
 use Rattle.number.proofs.Written.{Going}
 use Rattle.number.proofs.write_number.Given as goal
 
-abbrev pub invariant-loop-left : goal.invariant-loop-left
-invariant-loop-left l = Going l.n l.at l.initial.out l.left l.end l.out
-
-abbrev pub decreases-loop-left : goal.decreases-loop-left
-decreases-loop-left l = l.left
+abbrev pub invariant-loop-byte : goal.invariant-loop-byte
+invariant-loop-byte l = Going l.n l.left l.byte-index l.byte-items
