@@ -1,6 +1,8 @@
 // Prints numbers and codes with their bytes, and whether the writer and the reader agree with the table.
 #![tactic(auto)]
 
+ghost use Rattle.std.specs.Prelude.{◌≤◌, length, IfSome};
+
 use number::{Code, read_code, read_number, write_code, write_number};
 use std::{fmt, io};
 
@@ -91,7 +93,7 @@ impl fmt::Display for Hex<'_> {
 }
 
 // How many lines are the same as the table.
-#[derive(Clone, Copy)]
+#[derive(Clone, Copy, Default)]
 struct Tally {
     same: u32,
     different: u32,
@@ -110,78 +112,80 @@ impl Tally {
     }
 }
 
-fn number_agrees(number: u32, bytes: &[u8]) -> bool {
+impl fmt::Display for Tally {
+    fn fmt<W: fmt::Write>(&self, f: &mut fmt::Formatter<W>) -> fmt::Result {
+        write!(f, "{} same, {} DIFFERENT", self.same, self.different)
+    }
+}
+
+// What the table gives with its bytes: a number or a code.
+trait Sample: Copy + PartialEq + fmt::Debug {
+    // What bytes that hold none of these are printed as.
+    const NONE: &'static str;
+
+    fn write(self, out: &mut [u8]) -> Option<usize>
+        ensures { IfSome result (λ end. end ≤ length out.new) };
+
+    fn read(bytes: &[u8]) -> Option<(Self, &[u8])>;
+}
+
+impl Sample for u32 {
+    const NONE: &'static str = "no number";
+
+    fn write(self, out: &mut [u8]) -> Option<usize> {
+        write_number(self, out, 0)
+    }
+
+    fn read(bytes: &[u8]) -> Option<(u32, &[u8])> {
+        read_number(bytes)
+    }
+}
+
+impl Sample for Code {
+    const NONE: &'static str = "no code";
+
+    fn write(self, out: &mut [u8]) -> Option<usize> {
+        write_code(self, out, 0)
+    }
+
+    fn read(bytes: &[u8]) -> Option<(Code, &[u8])> {
+        read_code(bytes)
+    }
+}
+
+fn agrees<S: Sample>(sample: S, bytes: &[u8]) -> bool {
     let mut out = [0; 16];
-    let written = match write_number(number, &mut out, 0) {
-        Some(end) => &out[0..end] == bytes,
-        None => false,
-    };
-    let read = match read_number(bytes) {
-        Some((back, rest)) => back == number && rest.is_empty(),
-        None => false,
-    };
+    let written = sample
+        .write(&mut out)
+        .is_some_and(|end| &out[..end] == bytes);
+    let read = S::read(bytes).is_some_and(|(back, rest)| back == sample && rest.is_empty());
     written && read
 }
 
-fn code_agrees(code: Code, bytes: &[u8]) -> bool {
-    let mut out = [0; 16];
-    let written = match write_code(code, &mut out, 0) {
-        Some(end) => &out[0..end] == bytes,
-        None => false,
-    };
-    let read = match read_code(bytes) {
-        Some((back, rest)) => back == code && rest.is_empty(),
-        None => false,
-    };
-    written && read
-}
-
-fn show_numbers(rt: &HostRuntime, tally: &mut Tally) -> io::Result<()> {
-    for (number, bytes) in NUMBERS {
+fn show<S: Sample>(rt: &HostRuntime, tally: &mut Tally, samples: &[(S, &[u8])]) -> io::Result<()> {
+    for (sample, bytes) in samples {
         let hex = Hex(bytes);
-        let word = tally.word(number_agrees(number, bytes));
-        println!(rt; "{number}: {hex}{word}")?;
+        let word = tally.word(agrees(*sample, bytes));
+        println!(rt; "{sample:?}: {hex}{word}")?;
     }
     Ok(())
 }
 
-fn show_no_numbers(rt: &HostRuntime, tally: &mut Tally) -> io::Result<()> {
-    for bytes in NO_NUMBERS {
+fn show_none<S: Sample>(rt: &HostRuntime, tally: &mut Tally, samples: &[&[u8]]) -> io::Result<()> {
+    for bytes in samples {
+        let none = S::NONE;
         let hex = Hex(bytes);
-        let word = tally.word(read_number(bytes).is_none());
-        println!(rt; "no number: {hex}{word}")?;
-    }
-    Ok(())
-}
-
-fn show_codes(rt: &HostRuntime, tally: &mut Tally) -> io::Result<()> {
-    for (code, bytes) in CODES {
-        let hex = Hex(bytes);
-        let word = tally.word(code_agrees(code, bytes));
-        println!(rt; "{code:?}: {hex}{word}")?;
-    }
-    Ok(())
-}
-
-fn show_no_codes(rt: &HostRuntime, tally: &mut Tally) -> io::Result<()> {
-    for bytes in NO_CODES {
-        let hex = Hex(bytes);
-        let word = tally.word(read_code(bytes).is_none());
-        println!(rt; "no code: {hex}{word}")?;
+        let word = tally.word(S::read(bytes).is_none());
+        println!(rt; "{none}: {hex}{word}")?;
     }
     Ok(())
 }
 
 fn main(rt: HostRuntime) -> io::Result<()> {
-    let mut tally = Tally {
-        same: 0,
-        different: 0,
-    };
-    show_numbers(&rt, &mut tally)?;
-    show_no_numbers(&rt, &mut tally)?;
-    show_codes(&rt, &mut tally)?;
-    show_no_codes(&rt, &mut tally)?;
-    let same = tally.same;
-    let different = tally.different;
-    println!(rt; "{same} same, {different} DIFFERENT")
+    let mut tally = Tally::default();
+    show(&rt, &mut tally, &NUMBERS)?;
+    show_none::<u32>(&rt, &mut tally, &NO_NUMBERS)?;
+    show(&rt, &mut tally, &CODES)?;
+    show_none::<Code>(&rt, &mut tally, &NO_CODES)?;
+    println!(rt; "{tally}")
 }

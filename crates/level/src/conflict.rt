@@ -39,7 +39,7 @@ fn mark_at(row: usize, column: usize) -> bool
 fn kinds_conflict(a: Kind, b: Kind) -> bool
     ensures { result ≡ clash (kind_number a) (kind_number b) }
 {
-    mark_at(a.number() as usize - 1, b.number() as usize - 1)
+    mark_at(usize::from(u8::from(a)) - 1, usize::from(u8::from(b)) - 1)
 }
 
 fn locks_conflict(a: Lock, b: Lock) -> bool

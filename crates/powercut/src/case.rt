@@ -86,12 +86,7 @@ impl fmt::Display for End {
         let stands = self.stands;
         match self.answer {
             Ok(()) => write!(f, "ok {stands}"),
-            Err(refusal) => {
-                let number = refusal.reason.number();
-                let layer = refusal.layer;
-                let place = refusal.place;
-                write!(f, "no {number} {layer} {place} {stands}")
-            }
+            Err(refusal) => write!(f, "no {refusal} {stands}"),
         }
     }
 }
