@@ -1,46 +1,52 @@
--- What a call answers and leaves, by what the charge and the power let through.
-use Rattle.std.proofs.Common.{◌≡◌, ℕ, ◌-◌, ◌<◌, Bool, cond, List, [], length, get_or, set, is_some, is_ok, Some, None, Ok, Err, Option, Result, refl, ap, ◌∙◌, arith}
+-- What a call answers and leaves, by what the writes that are left let through.
+use Rattle.std.proofs.Common.{◌≡◌, ℕ, ◌<◌, List, [], length, get_or, set, Ok, Err, Option, arith}
 use Rattle.std.proofs.lemmas.Bool.Decides.{nat_tests}
+use Rattle.std.proofs.lemmas.Result.{err_from_is_err_and}
 use Rattle.refusal.specs.declared.Refusal.{Refusal}
 use Rattle.disk.specs.Device.{answer, bar, filled, written, write_answer}
-use Rattle.disk.specs.Gate.{reach_refusal, spend_refusal}
-use Rattle.disk.specs.Layout.{device}
+use Rattle.disk.specs.Gate.{admitted, spent, left_after}
+use Rattle.disk.specs.Layout.{supplied}
 
-pub none_from_ok : (o : Option Refusal) → Ok tt ≡ answer o → o ≡ None
-none_from_ok None h = refl
-none_from_ok (Some e) h = cc
+module _ (n count : ℕ) (b : List (List ℕ)) (left : Option ℕ) (many : count ≡ length b) where
+  pub read_within : (c : ℕ) → Ok c ≡ admitted n count left → n < length b
+  read_within c h = grind (arith, nat_tests)
 
-pub some_from_err : (o : Option Refusal) (e : Refusal) → Err e ≡ answer o → o ≡ Some e
-some_from_err None e h = cc
-some_from_err (Some f) e h = cc
-
-pub reached_within : (n count : ℕ) (p : Bool) → Ok tt ≡ answer (reach_refusal n count p) → n < count
-reached_within n count p h = grind (arith, nat_tests)
-
-pub spent_within : (n count c : ℕ) (p : Bool) → Ok tt ≡ answer (spend_refusal n count c p) → n < count
-spent_within n count c p h = grind (arith, nat_tests)
-
-module _ (n count c : ℕ) (p : Bool) (b : List (List ℕ)) (many : length b ≡ count) where
-  -- what bars a call from the blocks b
-  pub bar_is : bar n (device b c p) ≡ reach_refusal n count p
+  pub read_answers : (c : ℕ) → Ok c ≡ admitted n count left → Ok tt ≡ answer (bar n (supplied b left))
   unfolding bar
-  bar_is = ap (λ k. reach_refusal n k p) many
+  read_answers c h = grind (arith, nat_tests)
 
-  pub filled_free : (old : List ℕ) → Ok tt ≡ answer (reach_refusal n count p) → filled n (device b c p) old ≡ get_or b n []
-  unfolding filled
-  filled_free old h = rw (bar_is ∙ none_from_ok (reach_refusal n count p) h, filled)
+  pub read_fills : (c : ℕ) (old : List ℕ) → Ok c ≡ admitted n count left → filled n (supplied b left) old ≡ get_or b n []
+  unfolding bar filled
+  read_fills c old h = grind (arith, nat_tests)
 
-  pub filled_barred : (old : List ℕ) (e : Refusal) → Err e ≡ answer (reach_refusal n count p) → filled n (device b c p) old ≡ old
-  unfolding filled
-  filled_barred old e h = rw (bar_is ∙ some_from_err (reach_refusal n count p) e h, filled)
+  pub refused_answers : (e : Refusal) → Err e ≡ admitted n count left → Err e ≡ answer (bar n (supplied b left))
+  unfolding bar
+  refused_answers e h = grind (arith, nat_tests)
 
-  pub answer_is : write_answer n (device b c p) ≡ answer (spend_refusal n count c p)
-  unfolding write_answer
-  answer_is = rw (bar_is, write_answer) (grind (arith, nat_tests))
+  pub refused_fills : (e : Refusal) (old : List ℕ) → Err e ≡ admitted n count left → old ≡ filled n (supplied b left) old
+  unfolding bar filled
+  refused_fills e old h = grind (arith, nat_tests)
 
-  -- a write leaves what is left of the charge and the power, and the new block if it is accepted
-  pub written_is : (v : List ℕ) (r : Result Unit Refusal) (c' : ℕ) (p' : Bool) → r ≡ answer (spend_refusal n count c p)
-      → c' ≡ cond (is_ok r) (c - 1) c → p' ≡ cond (is_some (reach_refusal n count p)) p (is_ok r)
-      → written n v (device b c p) ≡ device (cond (is_ok r) (set b n v) b) c' p'
-  unfolding written
-  written_is v r c' p' e f g = rw (bar_is, written) (grind (arith, nat_tests))
+  pub write_within : Ok tt ≡ spent n count left → n < length b
+  write_within h = grind (arith, nat_tests)
+
+  pub write_answers : Ok tt ≡ spent n count left → Ok tt ≡ write_answer n (supplied b left)
+  unfolding bar write_answer
+  write_answers h = grind (arith, nat_tests)
+
+  pub write_leaves : (v : List ℕ) → Ok tt ≡ spent n count left → supplied (set b n v) (left_after n count left) ≡ written n v (supplied b left)
+  unfolding bar written
+  write_leaves v h = grind (arith, nat_tests)
+
+  pub unwritten_answers : (e : Refusal) → Err e ≡ spent n count left → Err e ≡ write_answer n (supplied b left)
+  unfolding bar write_answer
+  unwritten_answers e h = grind (arith, nat_tests)
+
+  pub unwritten_leaves : (e : Refusal) (v : List ℕ) → Err e ≡ spent n count left → supplied b (left_after n count left) ≡ written n v (supplied b left)
+  unfolding bar written
+  unwritten_leaves e v h = grind (arith, nat_tests)
+
+-- what a disk's read and write cite
+pub ruleset of_reads = (err_from_is_err_and, read_within, read_answers, read_fills, refused_answers, refused_fills)
+
+pub ruleset of_writes = (err_from_is_err_and, write_within, write_answers, write_leaves, unwritten_answers, unwritten_leaves)

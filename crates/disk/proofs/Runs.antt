@@ -1,11 +1,12 @@
 -- Runs of block writes: one write more, two runs in a row, and the law of a run.
-use Rattle.std.proofs.Common.{◌≡◌, ℕ, suc, ◌+◌, ◌-◌, ◌<◌, ◌≤◌, true, false, leb, ◌⊎◌, List, [], ◌∷◌, ◌++◌, length, get_or, take, drop, set, Ok, Err, Result, sym, refl, ap, ◌∙◌, subst, inl, inr, ⊎_elim, arith, length-set, take-append-drop}
-use Rattle.std.proofs.lemmas.Bool.{le-leb, lt-leb, cases_lt, cond-true, cond-false}
+use Rattle.std.proofs.Common.{◌≡◌, ℕ, suc, ◌+◌, ◌-◌, ◌<◌, ◌≤◌, true, ◌⊎◌, List, [], ◌∷◌, ◌++◌, length, get_or, take, drop, set, None, Ok, Err, Result, sym, refl, ap, ◌∙◌, subst, inl, inr, ⊎_elim, arith, length-set, take-append-drop}
+use Rattle.std.proofs.lemmas.Bool.{cases_lt}
+use Rattle.std.proofs.lemmas.Bool.Decides.{nat_tests}
 use Rattle.std.proofs.lemmas.List.{take_more, take_all}
 use Rattle.refusal.specs.declared.Refusal.{Refusal}
 use Rattle.refusal.specs.Refusals.{darkened}
-use Rattle.disk.specs.Device.{Device, written, write_answer, replaced}
-use Rattle.disk.specs.Runs.{Write, stored, going, ran, ran_answer, Inside, all_done, cut_short, Lasts}
+use Rattle.disk.specs.Device.{Device, bar, written, write_answer, replaced}
+use Rattle.disk.specs.Runs.{Write, going, ran, ran_answer, Inside, Lasts}
 use Rattle.disk.proofs.Writes.{bar_free, write_paid, write_spent}
 
 clash : {X : Type 0} {f : Refusal} {r : Result Unit Refusal} → r ≡ Ok tt → r ≡ Err f → X
@@ -101,42 +102,29 @@ underway_all ws d now i h u = let e = take_all i ws h in (u.here ∙ ap (λ l. r
 pub inside_set : (ws : List Write) (b : List (List ℕ)) (n : ℕ) (v : List ℕ) → Inside (length b) ws → Inside (length (set b n v)) ws
 inside_set ws b n v h = rw (length-set b n v) h
 
-same_device : (d : Device) → d.powered ≡ true → d ≡ record { blocks = d.blocks; charge = d.charge; powered = true }
-same_device d p = ap (λ x. record { blocks = d.blocks; charge = d.charge; powered = x }) p
-
 -- one write paid, and the law of the rest
 paid : (w : Write) (ws : List Write) (d : Device) → 0 < d.charge → ran (w ∷ ws) d ≡ ran ws (replaced w.0 w.1 d) → ran_answer (w ∷ ws) d ≡ ran_answer ws (replaced w.0 w.1 d) → Lasts ws (replaced w.0 w.1 d) → Lasts (w ∷ ws) d
 paid w ws d some l a h =
-    let r = replaced w.0 w.1 d in
-    let count : length (w ∷ ws) ≡ suc (length ws) = refl in
-    ⊎_elim
-    (λ short.
-    let c : leb (length ws) (d.charge - 1) ≡ false = lt-leb (length ws) (d.charge - 1) (omega arith) in
-    let k : leb (length (w ∷ ws)) d.charge ≡ false = lt-leb (length (w ∷ ws)) d.charge (omega arith) in
     let one : suc (d.charge - 1) ≡ d.charge = omega arith in
-    record {
-      leaves = l ∙ h.leaves ∙ cond-false (leb (length ws) r.charge) (all_done ws r) (cut_short ws r) c ∙ ap (λ n. record { blocks = stored (take n (w ∷ ws)) d.blocks; charge = 0; powered = false }) one ∙ sym (cond-false (leb (length (w ∷ ws)) d.charge) (all_done (w ∷ ws) d) (cut_short (w ∷ ws) d) k);
-      answers = a ∙ h.answers ∙ cond-false (leb (length ws) r.charge) _ _ c ∙ sym (cond-false (leb (length (w ∷ ws)) d.charge) _ _ k);
-    })
-    (λ enough.
-    let c : leb (length ws) (d.charge - 1) ≡ true = le-leb (length ws) (d.charge - 1) (omega arith) in
-    let k : leb (length (w ∷ ws)) d.charge ≡ true = le-leb (length (w ∷ ws)) d.charge (omega arith) in
     let n : d.charge - 1 - length ws ≡ d.charge - length (w ∷ ws) = omega arith in
     record {
-      leaves = l ∙ h.leaves ∙ cond-true (leb (length ws) r.charge) (all_done ws r) (cut_short ws r) c ∙ ap (λ x. record { blocks = stored ws (set d.blocks w.0 w.1); charge = x; powered = true }) n ∙ sym (cond-true (leb (length (w ∷ ws)) d.charge) (all_done (w ∷ ws) d) (cut_short (w ∷ ws) d) k);
-      answers = a ∙ h.answers ∙ cond-true (leb (length ws) r.charge) _ _ c ∙ sym (cond-true (leb (length (w ∷ ws)) d.charge) _ _ k);
-    })
-    (cases_lt d.charge (length (w ∷ ws)))
+      leaves = grind (arith, nat_tests, h.leaves);
+      answers = grind (arith, nat_tests, h.answers);
+    }
+
+-- a run that ends at its first write
+stopped : (w : Write) (ws : List Write) (d : Device) → bar w.0 d ≡ None → d.charge ≡ 0 → Lasts (w ∷ ws) d
+stopped w ws d free zero_left =
+    let o = write_spent w.0 w.1 d free zero_left in
+    let f = ran_stopped w ws d darkened o.0 in
+    record {
+      leaves = grind (arith, nat_tests, f.0, o.1);
+      answers = grind (arith, nat_tests, f.1);
+    }
 
 -- the law of a run
 pub lasts : (ws : List Write) (d : Device) → d.powered ≡ true → Inside (length d.blocks) ws → Lasts ws d
-lasts [] d p i =
-    let c : leb 0 d.charge ≡ true = le-leb 0 d.charge (omega arith) in
-    let z : d.charge - 0 ≡ d.charge = omega arith in
-    record {
-      leaves = (ran_none d).0 ∙ same_device d p ∙ ap (λ n. record { blocks = d.blocks; charge = n; powered = true }) (sym z) ∙ sym (cond-true (leb 0 d.charge) (all_done [] d) (cut_short [] d) c);
-      answers = (ran_none d).1 ∙ sym (cond-true (leb 0 d.charge) _ _ c);
-    }
+lasts [] d p i = record { leaves = grind (arith, nat_tests, (ran_none d).0); answers = grind (arith, nat_tests, (ran_none d).1) }
 lasts (w ∷ ws) d p i =
     let free = bar_free w.0 d p i.0 in
     ⊎_elim
@@ -145,15 +133,7 @@ lasts (w ∷ ws) d p i =
     let f = ran_first w ws d o.0 in
     let h = lasts ws (replaced w.0 w.1 d) refl (inside_set ws d.blocks w.0 w.1 i.1) in
     paid w ws d some (f.0 ∙ ap (ran ws) o.1) (f.1 ∙ ap (ran_answer ws) o.1) h)
-    (λ none.
-    let zero_left : d.charge ≡ 0 = omega arith in
-    let o = write_spent w.0 w.1 d free zero_left in
-    let f = ran_stopped w ws d darkened o.0 in
-    let c : leb (length (w ∷ ws)) d.charge ≡ false = lt-leb (length (w ∷ ws)) d.charge (omega arith) in
-    record {
-      leaves = f.0 ∙ o.1 ∙ ap (λ n. record { blocks = stored (take n (w ∷ ws)) d.blocks; charge = 0; powered = false }) (sym zero_left) ∙ sym (cond-false (leb (length (w ∷ ws)) d.charge) (all_done (w ∷ ws) d) (cut_short (w ∷ ws) d) c);
-      answers = f.1 ∙ sym (cond-false (leb (length (w ∷ ws)) d.charge) _ _ c);
-    })
+    (λ none. stopped w ws d free (omega arith))
     (cases_lt 0 d.charge)
 
 -- a run that was made

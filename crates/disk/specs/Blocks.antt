@@ -1,10 +1,12 @@
 -- The blocks of a memory: how many, which bytes each is, and what a write to one of them leaves.
-use Rattle.std.specs.Prelude.{◌≡◌, ℕ, zero, suc, ◌+◌, ◌-◌, ◌*◌, ◌<◌, ◌≤◌, List, [], ◌∷◌, ◌++◌, length, take, drop, replicate, slice_index_or, slice_set, refl}
+use Rattle.std.specs.Prelude.{◌≡◌, ℕ, zero, suc, ◌+◌, ◌-◌, ◌*◌, ◌<◌, ◌≤◌, List, [], ◌∷◌, ◌++◌, ◌/◌, Bool, length, take, drop, replicate, None, slice_index_or, slice_set, refl}
 use Rattle.std.proofs.Common.{sym, ap, ◌∙◌, arith}
 use borrow.Rule.Slice.PartMut.{put_mid}
 use Rattle.std.proofs.lemmas.List.{drop-drop, drop-take, take-take, take_at, drop_at, take-append-le, drop-append-le, length-take-le, length-drop, length-append, take-replicate, drop-replicate}
-use Rattle.disk.specs.Device.{Each}
-use Rattle.disk.specs.Layout.{blocks_of}
+use Rattle.std.proofs.lemmas.Bool.Decides.{nat_tests}
+use Rattle.disk.specs.Device.{Each, Formed}
+use Rattle.disk.specs.Layout.{blocks_of, device}
+use Rattle.disk.specs.Sizes.{size_refusal}
 
 -- two equations at once
 pub both : {X Y Z : Type 0} (f : X → Y → Z) {a b : X} {c d : Y} → a ≡ b → c ≡ d → f a c ≡ f b d
@@ -73,3 +75,17 @@ blocks_replicate (suc n) b =
     let to : 256 * suc n - 256 ≡ 256 * n = omega arith in
     both (λ x y. x ∷ y) (take-replicate 256 (256 * suc n) b (omega arith))
     (ap (blocks_of n) (drop-replicate 256 (256 * suc n) b ∙ ap (λ i. replicate i b) to) ∙ blocks_replicate n b)
+
+-- what is known of a size that is not refused
+pub sized : (len : ℕ) → size_refusal len ≡ None → (len ≡ 256 * (len / 256)) × (8 ≤ len / 256) × (len / 256 ≤ 4096)
+sized len h = (grind (arith, nat_tests), grind (arith, nat_tests), grind (arith, nat_tests))
+
+pub formed_blocks : (len : ℕ) (m : List ℕ) → len ≡ length m → size_refusal len ≡ None → (c : ℕ) (p : Bool) → Formed (device (blocks_of (len / 256) m) c p)
+formed_blocks len m l h c p =
+    let s = sized len h in
+    let n = length_blocks (len / 256) m in
+    record {
+      least = omega arith;
+      most = omega arith;
+      even = each_blocks (len / 256) m (sym l ∙ s.0);
+    }

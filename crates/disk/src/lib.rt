@@ -1,13 +1,14 @@
 // A disk: blocks of 256 bytes, a charge (the writes left before power goes), and power or none.
 #![tactic(auto)]
 
-ghost use Rattle.std.specs.Prelude.{◌≡◌, Bool, length};
+ghost use Rattle.std.specs.Prelude.{◌≡◌, length};
 ghost use Rattle.disk.specs.Device.{Device, Formed, answer, bar, filled, written, write_answer, powered_up};
 
 use refusal::Refusal;
 
 pub mod banked;
-mod memory;
+mod blocks;
+pub mod memory;
 pub mod plain;
 pub mod sizes;
 mod supply;

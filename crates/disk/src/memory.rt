@@ -1,44 +1,92 @@
-// Blocks in memory: block k of a memory is its 256 bytes from 256 * k on.
-ghost use Rattle.std.specs.Prelude.{◌≡◌, ◌+◌, ◌*◌, ◌≤◌, ◌++◌, length, take, drop, vec_len, bit_xor};
-ghost use Rattle.disk.specs.Layout.{inverted};
+// What a disk keeps its blocks in, and a disk over any of it.
+ghost use Rattle.std.specs.Prelude.{◌≡◌, ℕ, ◌<◌, Bool, List, [], length, Some, slice_index_or, slice_set};
+ghost use Rattle.disk.specs.Device.{Formed};
+ghost use Rattle.disk.specs.Layout.{device, supplied};
 
-pub(crate) fn load(memory: &[u8], k: u32, out: &mut [u8; 256])
-    requires { 256 * k + 256 ≤ length memory.now }
-    ensures { out.new ≡ take 256 (drop (256 * k) memory.now) }
-{
-    let at = 256 * k as usize;
-    out.copy_from_slice(&memory[at..at + 256]);
+use crate::Disk;
+use crate::supply::Supply;
+use refusal::Refusal;
+
+pub trait Memory {
+    ghost blocks: { Self → List (List ℕ) };
+
+    // how many blocks there are
+    fn count(&self) -> u32
+        ensures { result ≡ length (blocks self.now) };
+
+    // Fills `out` with block `n`.
+    fn load(&self, n: u32, out: &mut [u8; 256])
+        requires { n < length (blocks self.now) }
+        ensures { out.new ≡ slice_index_or (blocks self.now) n [] };
+
+    // Replaces block `n`.
+    fn store(&mut self, n: u32, block: &[u8; 256])
+        requires { n < length (blocks self.old) }
+        ensures { blocks self.new ≡ slice_set (blocks self.old) n block.now };
+
+    // whatever the charge and the power, its blocks make a disk
+    ghost formed: { (m : Self) (charge : ℕ) (powered : Bool) → Formed (device (blocks m) charge powered) };
 }
 
-pub(crate) fn store(memory: &mut Vec<u8>, k: u32, block: &[u8; 256])
-    requires { 256 * k + 256 ≤ vec_len memory.old }
-    ensures bytes { memory.new.items ≡ take (256 * k) memory.old.items ++ (block.now ++ drop (256 * k + 256) memory.old.items) }
-    ensures len { vec_len memory.new ≡ vec_len memory.old }
-{
-    let at = 256 * k as usize;
-    memory[at..at + 256].copy_from_slice(block);
+// A disk whose blocks stand in that memory.
+#[derive(Drop)]
+pub struct MemoryDisk<M> {
+    pub(crate) memory: M,
+    pub(crate) supply: Supply,
 }
 
-fn turned(byte: u8) -> u8
-    ensures { result ≡ bit_xor byte 255 }
-{
-    byte ^ 0xff
+// Memory that makes no disk, and why.
+#[derive(Drop)]
+pub struct Rejected<M> {
+    pub refusal: Refusal,
+    pub memory: M,
 }
 
-// Turns every bit.
-pub(crate) fn invert(block: &mut [u8; 256])
-    ensures { block.new ≡ inverted block.old }
-{
-    for byte in block.iter_mut() {
-        *byte = turned(*byte);
+impl<M> MemoryDisk<M> {
+    // A disk with power and no write left.
+    pub(crate) fn over(memory: M) -> MemoryDisk<M>
+        ensures memory { result.memory ≡ memory }
+        ensures supply { result.supply.left ≡ Some 0 }
+    {
+        MemoryDisk {
+            memory,
+            supply: Supply::new(0),
+        }
     }
 }
 
-// The block with every bit turned.
-pub(crate) fn inverse(block: &[u8; 256]) -> [u8; 256]
-    ensures { result ≡ inverted block.now }
-{
-    let mut bytes = *block;
-    invert(&mut bytes);
-    bytes
+impl<M: Memory> Disk for MemoryDisk<M> {
+    ghost means = { λ d. supplied (M.blocks d.memory) d.supply.left };
+
+    ghost formed = { λ d. M.formed d.memory _ _ };
+
+    fn count(&self) -> u32 {
+        self.memory.count()
+    }
+
+    fn charge(&self) -> u32 {
+        self.supply.charge()
+    }
+
+    fn is_powered(&self) -> bool {
+        self.supply.is_powered()
+    }
+
+    #[tactic(auto, using(crate::proofs::Calls::of_reads))]
+    fn read(&self, n: u32, out: &mut [u8; 256]) -> Result<(), Refusal> {
+        self.supply.admit(n, self.memory.count())?;
+        self.memory.load(n, out);
+        Ok(())
+    }
+
+    #[tactic(auto, using(crate::proofs::Calls::of_writes))]
+    fn write(&mut self, n: u32, v: &[u8; 256]) -> Result<(), Refusal> {
+        self.supply.spend(n, self.memory.count())?;
+        self.memory.store(n, v);
+        Ok(())
+    }
+
+    fn power(&mut self, charge: u32) {
+        self.supply = Supply::new(charge);
+    }
 }

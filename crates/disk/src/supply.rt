@@ -1,52 +1,62 @@
 // The charge and the power of a disk: what a call has to pass before it reaches a block.
-ghost use Rattle.std.specs.Prelude.{◌≡◌, ◌-◌, true, is_some, is_ok, if◌then◌else◌};
-ghost use Rattle.disk.specs.Device.{answer};
-ghost use Rattle.disk.specs.Gate.{reach_refusal, spend_refusal};
+ghost use Rattle.std.specs.Prelude.{◌≡◌, Some, is_some, unwrap_or};
+ghost use Rattle.disk.specs.Gate.{charged, admitted, spent, left_after};
 
 use refusal::{Reason, Refusal};
 
-#[derive(Drop)]
+#[derive(Clone, Copy)]
 pub struct Supply {
-    pub charge: u32,
-    pub powered: bool,
+    // the writes left before power goes, and none where the disk is dark
+    left: Option<u32>,
 }
 
 impl Supply {
     // Power, and so many writes before it goes.
     pub fn new(charge: u32) -> Supply
-        ensures { (result.charge ≡ charge) × (result.powered ≡ true) }
+        ensures { result.left ≡ Some charge }
     {
-        Supply {
-            charge,
-            powered: true,
-        }
+        Supply { left: Some(charge) }
     }
 
-    // Whether a disk of `count` blocks lets a call through to block `n`.
-    pub fn admit(&self, n: u32, count: u32) -> Result<(), Refusal>
-        ensures { result ≡ answer (reach_refusal n count self.now.powered) }
+    // The charge, which is 0 where the disk is dark.
+    pub fn charge(&self) -> u32
+        ensures { result ≡ unwrap_or self.now.left 0 }
     {
-        if !self.powered {
-            return Err(Refusal::new(Reason::Dark, 0, 0));
-        }
+        self.left.unwrap_or(0)
+    }
+
+    pub fn is_powered(&self) -> bool
+        ensures { result ≡ is_some self.now.left }
+    {
+        self.left.is_some()
+    }
+
+    // The charge of a disk with power.
+    fn live(&self) -> Result<u32, Refusal>
+        ensures { result ≡ charged self.now.left }
+    {
+        self.left.ok_or(Refusal::new(Reason::Dark, 0, 0))
+    }
+
+    // The charge, where a disk of `count` blocks lets a call through to block `n`.
+    pub fn admit(&self, n: u32, count: u32) -> Result<u32, Refusal>
+        ensures { result ≡ admitted n count self.now.left }
+    {
+        let charge = self.live()?;
         if n >= count {
             return Err(Refusal::new(Reason::OutOfRange, 0, n as u64));
         }
-        Ok(())
+        Ok(charge)
     }
 
     // Takes one write to block `n` from the charge. Where this is accepted the caller replaces the block; else no block changes.
     pub fn spend(&mut self, n: u32, count: u32) -> Result<(), Refusal>
-        ensures answer { result ≡ answer (spend_refusal n count self.old.charge self.old.powered) }
-        ensures charge { self.new.charge ≡ (if is_ok result then self.old.charge - 1 else self.old.charge) }
-        ensures powered { self.new.powered ≡ (if is_some (reach_refusal n count self.old.powered) then self.old.powered else is_ok result) }
+        ensures answer { result ≡ spent n count self.old.left }
+        ensures left { self.new.left ≡ left_after n count self.old.left }
     {
-        self.admit(n, count)?;
-        if self.charge == 0 {
-            self.powered = false;
-            return Err(Refusal::new(Reason::Dark, 0, 0));
-        }
-        self.charge -= 1;
+        let charge = self.admit(n, count)?;
+        self.left = charge.checked_sub(1);
+        self.live()?;
         Ok(())
     }
 }
