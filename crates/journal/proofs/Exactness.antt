@@ -1,12 +1,13 @@
 -- A commit record that can be read is one that could have been written. Assumes nothing.
 use Rattle.std.proofs.Common.{◌≡◌, ℕ, zero, suc, ◌+◌, ◌-◌, ◌^◌, ◌<◌, ◌≤◌, true, false, not, ◌&&◌, eqb, ltb, leb, List, [], ◌∷◌, ◌++◌, length, replicate, Some, None, Option, sym, refl, ap, ◌∙◌, subst, ⊎_elim, append_assoc, arith, length-append}
 use lib.ListN.{length-replicate}
-use Rattle.std.proofs.lemmas.Bool.{cases_Bool, cases_eq, eq-eqb, ne_eqb, eqb-true, ltb-true, leb-true, cond-true, cond-false, and_parts, not-true, true≢false, both_ways}
+use Rattle.std.proofs.lemmas.Bool.{cases_Bool, cases_eq, eq-eqb, ne_eqb, ltb-true, leb-true, cond-true, cond-false, and_parts, not-true, true≢false, both_ways}
 use Rattle.std.specs.List.{AllByRecursion}
 use Rattle.number.specs.Leb.{leb_all, reading}
 use Rattle.number.specs.Leb as number
 use Rattle.number.proofs.Numbers.{from_reading}
-use Rattle.journal.specs.Record.{record_of, member, all_zero, page_next, pages_from, counted, named, Different, Exactly}
+use Rattle.number.specs.Zeros.{zeros, zeros_from}
+use Rattle.journal.specs.Record.{record_of, member, page_next, pages_from, counted, named, Different, Exactly}
 use Rattle.journal.specs.Stored.{member_here}
 use Rattle.journal.specs.Records.{named_back}
 
@@ -16,14 +17,6 @@ none_some e = let z : ◌≡◌ {A = ℕ} 0 1 = cc in absurd (omega arith)
 all_after : (xs ys : List ℕ) → AllByRecursion (λ b. b < 256) (xs ++ ys) → AllByRecursion (λ b. b < 256) ys
 all_after [] ys a = a
 all_after (x ∷ xs) ys a = all_after xs ys a.1
-
-zeros_of : (bs : List ℕ) → all_zero bs ≡ true → bs ≡ replicate (length bs) 0
-zeros_of [] z = refl
-zeros_of (b ∷ bs) z =
-    ⊎_elim
-    (λ e. ap (λ x. x ∷ bs) (eqb-true b 0 e) ∙ ap (λ l. 0 ∷ l) (zeros_of bs (sym (cond-true (eqb b 0) (all_zero bs) false e) ∙ z)))
-    (λ e. absurd (true≢false (sym z ∙ cond-false (eqb b 0) (all_zero bs) false e)))
-    (cases_Bool (eqb b 0))
 
 -- pages none of which was seen before, each different from those before it
 Fresh : ℕ → List ℕ → List ℕ → Type 0
@@ -95,9 +88,9 @@ pages_of : (cells k : ℕ) (seen bs ps : List ℕ) → AllByRecursion (λ b. b <
 unfolding pages_from Fresh
 pages_of cells zero seen bs ps a e =
     ⊎_elim
-    (λ t. record { pages = []; zeros = length bs; all = sym (some_same (sym (cond-true (all_zero bs) (Some seen) None t) ∙ e)) ∙ sym (append_none seen); count = refl; text = zeros_of bs t; fresh = tt })
-    (λ f. none_some (sym (cond-false (all_zero bs) (Some seen) None f) ∙ e))
-    (cases_Bool (all_zero bs))
+    (λ t. record { pages = []; zeros = length bs; all = sym (some_same (sym (cond-true (zeros bs) (Some seen) None t) ∙ e)) ∙ sym (append_none seen); count = refl; text = zeros_from bs t; fresh = tt })
+    (λ f. none_some (sym (cond-false (zeros bs) (Some seen) None f) ∙ e))
+    (cases_Bool (zeros bs))
 pages_of cells (suc k) seen bs ps a e =
     let n = step_of cells seen k bs ps (reading bs) refl e in
     let first = (from_reading bs a n.page n.rest n.read).1 in

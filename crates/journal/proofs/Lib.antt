@@ -5,3 +5,6 @@ mod Loading
 mod Restoring
 mod Commits
 mod Exactness
+mod Told
+mod Admits
+mod Ended

@@ -2,14 +2,11 @@
 use Rattle.std.proofs.Common.{◌≡◌, ℕ, zero, suc, ◌+◌, ◌<◌, ◌≤◌, List, [], ◌∷◌, ◌++◌, length, get_or, take, set, sym, refl, ap, ◌∙◌, add-one, arith}
 use Rattle.std.proofs.lemmas.List.{take_all, take_more_set}
 use Rattle.journal.specs.declared.group.Pending.{Pending}
-use Rattle.journal.specs.Layout.{names, framed}
-use Rattle.journal.specs.Groups.{entries}
-use Rattle.journal.proofs.Writing.{length_entries, length_pages_named}
-
-entries_set : (xs : List Pending) (i : ℕ) (x : Pending) → entries (set xs i x) ≡ set (entries xs) i (x.page, x.bytes)
-entries_set [] i x = refl
-entries_set (y ∷ xs) zero x = refl
-entries_set (y ∷ xs) (suc i) x = ap (λ l. (y.page, y.bytes) ∷ l) (entries_set xs i x)
+use Rattle.journal.specs.Names.{names}
+use Rattle.journal.specs.Layout.{framed}
+use Rattle.journal.specs.Entries.{entries}
+use Rattle.journal.proofs.Seek.{entries_set, length_entries}
+use Rattle.journal.proofs.Writing.{length_pages_named}
 
 names_set : (xs : List Pending) (i : ℕ) (d : Pending) (v : List ℕ) → names (entries (set xs i (record { page = (get_or xs i d).page; bytes = v }))) ≡ names (entries xs)
 names_set [] i d v = refl

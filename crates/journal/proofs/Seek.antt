@@ -1,51 +1,67 @@
--- Where a page's entry is, and what a put there changes. Assumes nothing.
-use Rattle.std.proofs.Common.{◌≡◌, ℕ, zero, suc, ◌+◌, ◌<◌, ◌≤◌, true, false, cond, eqb, List, [], ◌∷◌, ◌++◌, length, get_or, drop, set, Some, None, sym, refl, ap, ◌∙◌, subst, arith}
-use Rattle.std.proofs.lemmas.List.{drop_more, drop_all}
-use Rattle.std.proofs.lemmas.Bool.{eq-eqb, ne_eqb, cond-true, cond-false}
+-- Where a page's write is in a group, and what a put there changes. Assumes nothing.
+use Rattle.std.proofs.Common.{◌≡◌, ℕ, zero, suc, ◌<◌, ◌≤◌, Bool, true, false, cond, eqb, ltb, List, [], ◌∷◌, ◌++◌, length, get_or, set, Some, None, Option, MatchOption, is_some, sym, refl, ap, ◌∙◌, arith}
+use Rattle.std.proofs.lemmas.Bool.{eq-eqb, ne_eqb, eqb-true, eqb-false, ltb-false, cond-true, cond-false}
+use Rattle.std.proofs.lemmas.List.Quantifiers.{position-Some}
+use Rattle.std.proofs.lemmas.List.Sums.{fails_before_first}
+use Rattle.std.specs.List.{position, position_or_len}
+use Rattle.disk.specs.Runs.{Write}
 use Rattle.journal.specs.declared.group.Pending.{Pending}
 use Rattle.journal.specs.Record.{member}
-use Rattle.journal.specs.Layout.{names}
-use Rattle.journal.specs.Groups.{entries, First, Absent, looked_up, remembered}
+use Rattle.journal.specs.Names.{names}
+use Rattle.journal.specs.Entries.{entries}
+use Rattle.journal.specs.Groups.{First, Absent, looked_up, remembered}
 
--- what is found past the first i entries is found in all
-pub record Past (page : ℕ) (xs : List Pending) (i : ℕ) : Type 0 where
-  pub first : (k : ℕ) → First page (drop i xs) k → First page xs (i + k)
-  pub absent : Absent page (drop i xs) → Absent page xs
+-- the writes of a group's pages, at a place and with a page more
+pub entries_append : (xs ys : List Pending) → entries (xs ++ ys) ≡ entries xs ++ entries ys
+entries_append [] ys = refl
+entries_append (x ∷ xs) ys = ap (λ l. (x.page, x.bytes) ∷ l) (entries_append xs ys)
 
-pub past_none : (page : ℕ) (xs : List Pending) → Past page xs 0
-past_none page xs =
-    record { first = λ k f. let e : k ≡ 0 + k = omega arith in subst (First page xs) e f; absent = λ a. a }
+pub entries_set : (xs : List Pending) (i : ℕ) (x : Pending) → entries (set xs i x) ≡ set (entries xs) i (x.page, x.bytes)
+entries_set [] i x = refl
+entries_set (y ∷ xs) zero x = refl
+entries_set (y ∷ xs) (suc i) x = ap (λ l. (y.page, y.bytes) ∷ l) (entries_set xs i x)
 
-module _ (page : ℕ) (xs : List Pending) (i : ℕ) (d : Pending) (within : i < length xs) (past : Past page xs i) where
-  split : drop i xs ≡ get_or xs i d ∷ drop (i + 1) xs
-  split = drop_more xs i d within
+pub entries_at : (xs : List Pending) (i : ℕ) (d : Pending) → get_or (entries xs) i (d.page, d.bytes) ≡ ((get_or xs i d).page, (get_or xs i d).bytes)
+entries_at [] i d = refl
+entries_at (x ∷ xs) zero d = refl
+entries_at (x ∷ xs) (suc i) d = entries_at xs i d
 
-  pub past_more : ((get_or xs i d).page ≡ page → ⊥) → Past page xs (i + 1)
-  past_more other =
-      record {
-        first = λ k f. let e : i + suc k ≡ i + 1 + k = omega arith in
-            subst (First page xs) e (past.first (suc k) (subst (λ l. First page l (suc k)) (sym split) (other, f)));
-        absent = λ a. past.absent (subst (Absent page) (sym split) (other, a));
-      }
+pub length_entries : (xs : List Pending) → length (entries xs) ≡ length xs
+length_entries [] = refl
+length_entries (x ∷ xs) = ap suc (length_entries xs)
 
-  pub past_here : (get_or xs i d).page ≡ page → First page xs i
-  past_here same =
-      let e : i + 0 ≡ i = omega arith in
-      subst (First page xs) e (past.first 0 (subst (λ l. First page l 0) (sym split) same))
+-- what the search for a page finds
+found : (page : ℕ) (xs : List Pending) (i : ℕ) (d : Pending) → i < length xs → ((get_or xs i d).page ≡ page) → ((k : ℕ) → k < i → (get_or xs k d).page ≡ page → ⊥) → First page (entries xs) i
+found page [] i d h e before = absurd (omega arith)
+found page (x ∷ xs) zero d h e before = e
+found page (x ∷ xs) (suc i) d h e before = (before 0 (omega arith), found page xs i d (omega arith) e (λ k l. before (suc k) (omega arith)))
 
-pub past_all : (page : ℕ) (xs : List Pending) (i : ℕ) → length xs ≤ i → Past page xs i → Absent page xs
-past_all page xs i h past = past.absent (subst (Absent page) (sym (drop_all i xs h)) tt)
+missing : (page : ℕ) (xs : List Pending) (d : Pending) → ((k : ℕ) → k < length xs → (get_or xs k d).page ≡ page → ⊥) → Absent page (entries xs)
+missing page [] d other = tt
+missing page (x ∷ xs) d other = (other 0 (omega arith), missing page xs d (λ k l. other (suc k) (omega arith)))
 
-pub first_within : (page : ℕ) (xs : List Pending) (i : ℕ) → First page xs i → i < length xs
+pub sought : (page : ℕ) (xs : List Pending) (r : Option ℕ) → r ≡ position (λ (p : Pending). eqb p.page page) xs → MatchOption r (Absent page (entries xs)) (λ i. First page (entries xs) i)
+sought page xs (Some i) e =
+    let d : Pending = record { page = 0; bytes = [] } in
+    let t = position-Some (λ (p : Pending). eqb p.page page) xs i d (sym e) in
+    found page xs i d t.0 (eqb-true (get_or xs i d).page page t.1) (λ k h. eqb-false (get_or xs k d).page page (t.2 k h))
+sought page xs None e =
+    let d : Pending = record { page = 0; bytes = [] } in
+    let p : Pending → Bool = λ x. eqb x.page page in
+    let none : (b : Bool) → None ≡ cond b (Some (position_or_len p xs)) None → b ≡ false = elim [ true ↦ (λ q. let z : ◌≡◌ {A = ℕ} 0 1 = cc in absurd (omega arith)) | false ↦ (λ q. refl) ] in
+    let past : length xs ≤ position_or_len p xs = ltb-false (position_or_len p xs) (length xs) (none (ltb (position_or_len p xs) (length xs)) e) in
+    missing page xs d (λ k h. eqb-false (get_or xs k d).page page (fails_before_first p xs k d (omega arith)))
+
+pub first_within : (page : ℕ) (ws : List Write) (i : ℕ) → First page ws i → i < length ws
 first_within page [] i f = absurd f
-first_within page (x ∷ xs) zero f = omega arith
-first_within page (x ∷ xs) (suc i) f = omega (arith, first_within page xs i f.1)
+first_within page (w ∷ ws) zero f = omega arith
+first_within page (w ∷ ws) (suc i) f = omega (arith, first_within page ws i f.1)
 
--- the entry at the place found has the page's number
-pub first_page : (page : ℕ) (xs : List Pending) (i : ℕ) (d : Pending) → First page xs i → (get_or xs i d).page ≡ page
+-- the write at the place found is the page's
+pub first_page : (page : ℕ) (ws : List Write) (i : ℕ) (d : Write) → First page ws i → (get_or ws i d).0 ≡ page
 first_page page [] i d f = absurd f
-first_page page (x ∷ xs) zero d f = f
-first_page page (x ∷ xs) (suc i) d f = first_page page xs i d f.1
+first_page page (w ∷ ws) zero d f = f
+first_page page (w ∷ ws) (suc i) d f = first_page page ws i d f.1
 
 module _ {A : Type 0} (n page : ℕ) (x y : A) where
   hit : n ≡ page → cond (eqb n page) x y ≡ x
@@ -54,29 +70,37 @@ module _ {A : Type 0} (n page : ℕ) (x y : A) where
   miss : (n ≡ page → ⊥) → cond (eqb n page) x y ≡ y
   miss e = cond-false (eqb n page) x y (ne_eqb n page e)
 
-pub absent_member : (page : ℕ) (xs : List Pending) → Absent page xs → member page (names (entries xs)) ≡ false
+pub absent_member : (page : ℕ) (ws : List Write) → Absent page ws → member page (names ws) ≡ false
 absent_member page [] a = refl
-absent_member page (x ∷ xs) a = miss x.page page _ _ a.0 ∙ absent_member page xs a.1
+absent_member page (w ∷ ws) a = miss w.0 page _ _ a.0 ∙ absent_member page ws a.1
 
-pub first_member : (page : ℕ) (xs : List Pending) (i : ℕ) → First page xs i → member page (names (entries xs)) ≡ true
+pub first_member : (page : ℕ) (ws : List Write) (i : ℕ) → First page ws i → member page (names ws) ≡ true
 first_member page [] i f = absurd f
-first_member page (x ∷ xs) zero f = hit x.page page _ _ f
-first_member page (x ∷ xs) (suc i) f = miss x.page page _ _ f.0 ∙ first_member page xs i f.1
+first_member page (w ∷ ws) zero f = hit w.0 page _ _ f
+first_member page (w ∷ ws) (suc i) f = miss w.0 page _ _ f.0 ∙ first_member page ws i f.1
 
-pub absent_looked : (page : ℕ) (xs : List Pending) → Absent page xs → looked_up page (entries xs) ≡ None
+pub absent_looked : (page : ℕ) (ws : List Write) → Absent page ws → looked_up page ws ≡ None
 absent_looked page [] a = refl
-absent_looked page (x ∷ xs) a = miss x.page page _ _ a.0 ∙ absent_looked page xs a.1
+absent_looked page (w ∷ ws) a = miss w.0 page _ _ a.0 ∙ absent_looked page ws a.1
 
-pub first_looked : (page : ℕ) (xs : List Pending) (i : ℕ) (d : Pending) → First page xs i → looked_up page (entries xs) ≡ Some (get_or xs i d).bytes
+pub first_looked : (page : ℕ) (ws : List Write) (i : ℕ) (d : Write) → First page ws i → looked_up page ws ≡ Some (get_or ws i d).1
 first_looked page [] i d f = absurd f
-first_looked page (x ∷ xs) zero d f = hit x.page page _ _ f
-first_looked page (x ∷ xs) (suc i) d f = miss x.page page _ _ f.0 ∙ first_looked page xs i d f.1
+first_looked page (w ∷ ws) zero d f = hit w.0 page _ _ f
+first_looked page (w ∷ ws) (suc i) d f = miss w.0 page _ _ f.0 ∙ first_looked page ws i d f.1
 
-pub push_remembered : (page : ℕ) (bytes : List ℕ) (xs : List Pending) → Absent page xs → entries (xs ++ record { page = page; bytes = bytes } ∷ []) ≡ remembered page bytes (entries xs)
+pub push_remembered : (page : ℕ) (bytes : List ℕ) (ws : List Write) → Absent page ws → ws ++ (page, bytes) ∷ [] ≡ remembered page bytes ws
 push_remembered page bytes [] a = refl
-push_remembered page bytes (x ∷ xs) a = ap (λ l. (x.page, x.bytes) ∷ l) (push_remembered page bytes xs a.1) ∙ sym (miss x.page page _ _ a.0)
+push_remembered page bytes (w ∷ ws) a = ap (λ l. w ∷ l) (push_remembered page bytes ws a.1) ∙ sym (miss w.0 page _ _ a.0)
 
-pub set_remembered : (page : ℕ) (bytes : List ℕ) (xs : List Pending) (i : ℕ) → First page xs i → entries (set xs i (record { page = page; bytes = bytes })) ≡ remembered page bytes (entries xs)
+pub set_remembered : (page : ℕ) (bytes : List ℕ) (ws : List Write) (i : ℕ) → First page ws i → set ws i (page, bytes) ≡ remembered page bytes ws
 set_remembered page bytes [] i f = absurd f
-set_remembered page bytes (x ∷ xs) zero f = sym (hit x.page page _ _ f)
-set_remembered page bytes (x ∷ xs) (suc i) f = ap (λ l. (x.page, x.bytes) ∷ l) (set_remembered page bytes xs i f.1) ∙ sym (miss x.page page _ _ f.0)
+set_remembered page bytes (w ∷ ws) zero f = sym (hit w.0 page _ _ f)
+set_remembered page bytes (w ∷ ws) (suc i) f = ap (λ l. w ∷ l) (set_remembered page bytes ws i f.1) ∙ sym (miss w.0 page _ _ f.0)
+
+pub sought_member : (page : ℕ) (ws : List Write) (r : Option ℕ) → MatchOption r (Absent page ws) (λ i. First page ws i) → is_some r ≡ member page (names ws)
+sought_member page ws (Some i) f = sym (first_member page ws i f)
+sought_member page ws None a = sym (absent_member page ws a)
+
+-- a group has as many pages as writes
+pub size_of : (xs : List Pending) (ws : List Write) → entries xs ≡ ws → length xs ≡ length ws
+size_of xs ws e = sym (length_entries xs) ∙ ap length e

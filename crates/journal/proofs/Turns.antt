@@ -1,22 +1,27 @@
--- The writes of a group's pages, one at each turn of a loop. Assumes nothing.
-use Rattle.std.proofs.Common.{◌≡◌, ℕ, zero, suc, ◌+◌, ◌-◌, ◌<◌, ◌≤◌, List, [], ◌∷◌, ◌++◌, length, get_or, sym, refl, ap, ◌∙◌, append_assoc, arith}
+-- The writes of a group's pages, one at each turn of a loop, and the parts of a commit, one after the other. Assumes nothing.
+use Rattle.std.proofs.Common.{◌≡◌, ℕ, zero, suc, ◌+◌, ◌<◌, List, [], ◌∷◌, ◌++◌, length, get_or, take, drop, sym, refl, ap, ◌∙◌, append_assoc, arith}
+use Rattle.std.proofs.lemmas.List.{take_more, drop_more, take-append-drop}
 use Rattle.disk.specs.Runs.{Write}
-use Rattle.journal.specs.declared.group.Pending.{Pending}
 use Rattle.journal.specs.declared.writes.Side.{Side}
 use Rattle.journal.specs.declared.writes.Side.TheVariants.{Frames, Pages}
+use Rattle.journal.specs.declared.writes.Part.{Part}
+use Rattle.journal.specs.declared.writes.Part.TheVariants as part
+use Rattle.journal.specs.declared.group.Pending.{Pending}
+use Rattle.journal.specs.Entries.{entries}
+use Rattle.journal.specs.Names.{names}
 use Rattle.journal.specs.Record.{record_of, blank}
-use Rattle.journal.specs.Layout.{names, block_at, writes_to, frame_writes, page_writes, copy_writes, commit_writes, part_at, part_writes, parts_from, writes_from}
-use Rattle.journal.specs.Groups.{entries}
+use Rattle.journal.proofs.Seek.{length_entries, entries_at}
+use Rattle.journal.specs.Layout.{block_at, writes_to, frame_writes, page_writes, copy_writes, commit_writes, part_writes, all_writes, writes_of}
 
-pub length_writes : (s : Side) (i : ℕ) (xs : List Pending) → length (writes_to s i (entries xs)) ≡ length xs
+pub length_writes : (s : Side) (i : ℕ) (ws : List Write) → length (writes_to s i ws) ≡ length ws
 length_writes s i [] = refl
-length_writes s i (x ∷ xs) = ap suc (length_writes s (i + 1) xs)
+length_writes s i (w ∷ ws) = ap suc (length_writes s (i + 1) ws)
 
 -- the write of turn j
-pub write_at : (s : Side) (i j : ℕ) (xs : List Pending) (d : Pending) (w : Write) → j < length xs → get_or (writes_to s i (entries xs)) j w ≡ (block_at s (i + j) (get_or xs j d).page, (get_or xs j d).bytes)
+pub write_at : (s : Side) (i j : ℕ) (ws : List Write) (d w : Write) → j < length ws → get_or (writes_to s i ws) j w ≡ (block_at s (i + j) (get_or ws j d).0, (get_or ws j d).1)
 write_at s i j [] d w h = absurd (omega arith)
-write_at s i zero (x ∷ xs) d w h = let z : i + 0 ≡ i = omega arith in ap (λ k. (block_at s k x.page, x.bytes)) (sym z)
-write_at s i (suc j) (x ∷ xs) d w h = let z : i + 1 + j ≡ i + suc j = omega arith in write_at s (i + 1) j xs d w (omega arith) ∙ ap (λ k. (block_at s k (get_or xs j d).page, (get_or xs j d).bytes)) z
+write_at s i zero (x ∷ ws) d w h = let z : i + 0 ≡ i = omega arith in ap (λ k. (block_at s k x.0, x.1)) (sym z)
+write_at s i (suc j) (x ∷ ws) d w h = let z : i + 1 + j ≡ i + suc j = omega arith in write_at s (i + 1) j ws d w (omega arith) ∙ ap (λ k. (block_at s k (get_or ws j d).0, (get_or ws j d).1)) z
 
 pub to_frames : (i : ℕ) (ws : List Write) → writes_to Frames i ws ≡ frame_writes i ws
 to_frames i [] = refl
@@ -26,57 +31,46 @@ pub to_pages : (i : ℕ) (ws : List Write) → writes_to Pages i ws ≡ page_wri
 to_pages i [] = refl
 to_pages i (w ∷ ws) = ap (λ l. (7 + w.0, w.1) ∷ l) (to_pages (i + 1) ws)
 
-pub turn_write : (s : Side) (j : ℕ) (xs : List Pending) (d : Pending) (w : Write) → j < length xs → get_or (writes_to s 0 (entries xs)) j w ≡ (block_at s j (get_or xs j d).page, (get_or xs j d).bytes)
-turn_write s j xs d w h = let z : 0 + j ≡ j = omega arith in write_at s 0 j xs d w h ∙ ap (λ k. (block_at s k (get_or xs j d).page, (get_or xs j d).bytes)) z
-
--- parts in a row
-pub parts_add : (a b first : ℕ) (ws : List Write) → parts_from (a + b) first ws ≡ parts_from a first ws ++ parts_from b (first + a) ws
-parts_add zero b first ws = let z : 0 + b ≡ b = omega arith in let y : first ≡ first + 0 = omega arith in ap (λ k. parts_from k first ws) z ∙ ap (λ k. parts_from b k ws) y
-parts_add (suc a) b first ws =
-    let z : suc a + b ≡ suc (a + b) = omega arith in
-    let y : first + 1 + a ≡ first + suc a = omega arith in
-    ap (λ k. parts_from k first ws) z
-    ∙ ap (λ l. part_writes (part_at first) ws ++ l) (parts_add a b (first + 1) ws ∙ ap (λ k. parts_from a (first + 1) ws ++ parts_from b k ws) y)
-    ∙ sym (append_assoc (part_writes (part_at first) ws) (parts_from a (first + 1) ws) (parts_from b (first + suc a) ws))
+pub turn_write : (s : Side) (j : ℕ) (ws : List Write) (d w : Write) → j < length ws → get_or (writes_to s 0 ws) j w ≡ (block_at s j (get_or ws j d).0, (get_or ws j d).1)
+turn_write s j ws d w h = let z : 0 + j ≡ j = omega arith in write_at s 0 j ws d w h ∙ ap (λ k. (block_at s k (get_or ws j d).0, (get_or ws j d).1)) z
 
 append_none : {A : Type 0} (xs : List A) → xs ++ [] ≡ xs
 append_none [] = refl
 append_none (x ∷ xs) = ap (λ l. x ∷ l) (append_none xs)
 
-pub parts_more : (a step first : ℕ) (ws : List Write) → step ≡ first + a → parts_from a first ws ++ part_writes (part_at step) ws ≡ parts_from (a + 1) first ws
-parts_more a step first ws e = sym (parts_add a 1 first ws ∙ ap (λ k. parts_from a first ws ++ (part_writes (part_at k) ws ++ [])) (sym e) ∙ ap (λ l. parts_from a first ws ++ l) (append_none (part_writes (part_at step) ws)))
+all_append : (ps qs : List Part) (ws : List Write) → all_writes (ps ++ qs) ws ≡ all_writes ps ws ++ all_writes qs ws
+all_append [] qs ws = refl
+all_append (p ∷ ps) qs ws = ap (λ l. part_writes p ws ++ l) (all_append ps qs ws) ∙ sym (append_assoc (part_writes p ws) (all_writes ps ws) (all_writes qs ws))
+
+-- a loop over the parts
+module _ (ps : List Part) (i : ℕ) (d : Part) (ws : List Write) (h : i < length ps) where
+  pub one_more : all_writes (take i ps) ws ++ part_writes (get_or ps i d) ws ≡ all_writes (take (i + 1) ps) ws
+  one_more =
+      ap (λ l. all_writes (take i ps) ws ++ l) (sym (append_none (part_writes (get_or ps i d) ws)))
+      ∙ sym (all_append (take i ps) (get_or ps i d ∷ []) ws)
+      ∙ ap (λ l. all_writes l ws) (sym (take_more ps i d h))
+
+  -- what is left after a part
+  pub one_left : all_writes (take i ps) ws ++ (part_writes (get_or ps i d) ws ++ all_writes (drop (i + 1) ps) ws) ≡ all_writes ps ws
+  one_left =
+      sym (all_append (take i ps) (get_or ps i d ∷ drop (i + 1) ps) ws)
+      ∙ ap (λ l. all_writes (take i ps ++ l) ws) (sym (drop_more ps i d h))
+      ∙ ap (λ l. all_writes l ws) (take-append-drop i ps)
+
+pub some_writes : (ps : List Part) (ws : List Write) → (length ws ≡ 0 → ⊥) → all_writes ps ws ≡ writes_of ps ws
+some_writes ps [] h = absurd (h refl)
+some_writes ps (w ∷ ws) h = refl
 
 -- what a commit and a recovery write
-pub all_parts : (ws : List Write) → writes_from 0 ws ≡ commit_writes ws
+pub all_parts : (ws : List Write) → writes_of (part.Frames ∷ part.Record ∷ part.Pages ∷ part.EmptyRecord ∷ []) ws ≡ commit_writes ws
 all_parts [] = refl
 all_parts (w ∷ ws) = ap (λ l. l ++ (0, record_of (names (w ∷ ws))) ∷ (writes_to Pages 0 (w ∷ ws) ++ (0, blank) ∷ [])) (to_frames 0 (w ∷ ws)) ∙ ap (λ l. frame_writes 0 (w ∷ ws) ++ (0, record_of (names (w ∷ ws))) ∷ (l ++ (0, blank) ∷ [])) (to_pages 0 (w ∷ ws))
 
-pub last_parts : (w : Write) (ws : List Write) → writes_from 2 (w ∷ ws) ≡ copy_writes (w ∷ ws)
+pub last_parts : (w : Write) (ws : List Write) → writes_of (part.Pages ∷ part.EmptyRecord ∷ []) (w ∷ ws) ≡ copy_writes (w ∷ ws)
 last_parts w ws = ap (λ l. l ++ (0, blank) ∷ []) (to_pages 0 (w ∷ ws))
 
-some_parts : (first : ℕ) (xs : List Pending) → (length xs ≡ 0 → ⊥) → parts_from (4 - first) first (entries xs) ≡ writes_from first (entries xs)
-some_parts first [] h = absurd (h refl)
-some_parts first (x ∷ xs) h = refl
-
--- a loop over the parts
-module _ (first step : ℕ) (xs : List Pending) (from : first ≤ step) where
-  count_more : step - first + 1 ≡ step + 1 - first
-  count_more = omega arith
-
-  pub parts_next : parts_from (step - first) first (entries xs) ++ part_writes (part_at step) (entries xs) ≡ parts_from (step + 1 - first) first (entries xs)
-  parts_next = parts_more (step - first) step first (entries xs) (omega arith) ∙ ap (λ k. parts_from k first (entries xs)) count_more
-
-  -- what is left after a step
-  pub parts_left : step < 4 → (length xs ≡ 0 → ⊥) → parts_from (step - first) first (entries xs) ++ (part_writes (part_at step) (entries xs) ++ parts_from (4 - (step + 1)) (step + 1) (entries xs)) ≡ writes_from first (entries xs)
-  parts_left h some =
-      let a : step + 1 - first + (4 - (step + 1)) ≡ 4 - first = omega arith in
-      let b : first + (step + 1 - first) ≡ step + 1 = omega arith in
-      sym (append_assoc (parts_from (step - first) first (entries xs)) (part_writes (part_at step) (entries xs)) (parts_from (4 - (step + 1)) (step + 1) (entries xs)))
-      ∙ ap (λ l. l ++ parts_from (4 - (step + 1)) (step + 1) (entries xs)) parts_next
-      ∙ ap (λ k. parts_from (step + 1 - first) first (entries xs) ++ parts_from (4 - (step + 1)) k (entries xs)) (sym b)
-      ∙ sym (parts_add (step + 1 - first) (4 - (step + 1)) first (entries xs))
-      ∙ ap (λ k. parts_from k first (entries xs)) a
-      ∙ some_parts first xs some
-
-  pub parts_done : step ≡ 4 → (length xs ≡ 0 → ⊥) → parts_from (step - first) first (entries xs) ≡ writes_from first (entries xs)
-  parts_done h some = ap (λ k. parts_from (k - first) first (entries xs)) h ∙ some_parts first xs some
+-- the write of a page of a group
+pub page_write : (s : Side) (j : ℕ) (ps : List Pending) (d : Pending) (w : Write) → j < length ps → get_or (writes_to s 0 (entries ps)) j w ≡ (block_at s j (get_or ps j d).page, (get_or ps j d).bytes)
+page_write s j ps d w h =
+    turn_write s j (entries ps) (d.page, d.bytes) w (omega (arith, length_entries ps))
+    ∙ ap (λ (x : Write). (block_at s j x.0, x.1)) (entries_at ps j d)

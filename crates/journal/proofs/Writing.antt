@@ -1,14 +1,16 @@
 -- Numbers written one after the other into a block of zeros. Assumes nothing.
-use Rattle.std.proofs.Common.{◌≡◌, ℕ, zero, suc, ◌+◌, ◌-◌, ◌*◌, ◌<◌, ◌≤◌, List, [], ◌∷◌, ◌++◌, length, get_or, take, drop, replicate, Some, None, sym, refl, ap, ◌∙◌, append_assoc, arith, length-append}
+use Rattle.std.proofs.Common.{◌≡◌, ℕ, zero, suc, ◌+◌, ◌-◌, ◌*◌, ◌<◌, ◌≤◌, List, [], ◌∷◌, ◌++◌, length, get_or, take, drop, replicate, Some, None, Option, IsSome, sym, refl, ap, ◌∙◌, append_assoc, arith, length-append}
 use lib.ListN.{length-replicate}
 use Rattle.std.proofs.lemmas.List.{take_at, drop_at, take_more, take_all, drop-replicate, drop-drop}
-use Rattle.number.specs.Leb.{leb, leb_all}
+use Rattle.number.specs.Leb.{leb, lebs, leb_all}
 use Rattle.number.specs.Bytes.{Written}
 use Rattle.number.proofs.Numbers.{leb_short}
 use Rattle.journal.specs.declared.group.Pending.{Pending}
+use Rattle.disk.specs.Runs.{Write}
 use Rattle.journal.specs.Record.{record_of}
-use Rattle.journal.specs.Layout.{names}
-use Rattle.journal.specs.Groups.{entries}
+use Rattle.journal.proofs.Seek.{entries_append}
+use Rattle.journal.specs.Names.{names}
+use Rattle.journal.specs.Entries.{entries}
 
 -- these numbers stand first, and zeros after them
 pub record Holds (ns : List ℕ) (end : ℕ) (out : List ℕ) : Type 0 where
@@ -52,13 +54,9 @@ module _ (ns : List ℕ) (n end : ℕ) (out : List ℕ) (few : length ns ≤ 7) 
         short = omega (arith, w.0, leb_short n, h.short, length-append ns (n ∷ []));
       }
 
-pub names_entries_append : (xs ys : List Pending) → names (entries (xs ++ ys)) ≡ names (entries xs) ++ names (entries ys)
-names_entries_append [] ys = refl
-names_entries_append (x ∷ xs) ys = ap (λ l. x.page ∷ l) (names_entries_append xs ys)
-
-pub length_entries : (xs : List Pending) → length (entries xs) ≡ length xs
-length_entries [] = refl
-length_entries (x ∷ xs) = ap suc (length_entries xs)
+pub names_append : (xs ys : List Write) → names (xs ++ ys) ≡ names xs ++ names ys
+names_append [] ys = refl
+names_append (x ∷ xs) ys = ap (λ l. x.0 ∷ l) (names_append xs ys)
 
 pub length_pages_named : (xs : List Pending) → length (names (entries xs)) ≡ length xs
 length_pages_named [] = refl
@@ -69,7 +67,7 @@ abbrev pub so_far : List Pending → ℕ → List ℕ
 so_far ps i = length ps ∷ names (entries (take i ps))
 
 pub so_far_more : (ps : List Pending) (i : ℕ) (d : Pending) → i < length ps → so_far ps (i + 1) ≡ so_far ps i ++ (get_or ps i d).page ∷ []
-so_far_more ps i d h = ap (λ l. length ps ∷ l) (ap (λ l. names (entries l)) (take_more ps i d h) ∙ names_entries_append (take i ps) (get_or ps i d ∷ []))
+so_far_more ps i d h = ap (λ l. length ps ∷ l) (ap (λ l. names (entries l)) (take_more ps i d h) ∙ ap names (entries_append (take i ps) (get_or ps i d ∷ [])) ∙ names_append (entries (take i ps)) _)
 
 pub length_so_far : (ps : List Pending) (i : ℕ) → length ps ≤ 6 → length (so_far ps i) ≤ 7
 length_so_far ps i h = omega (arith, length_pages_named (take i ps), bounded i ps)
@@ -84,3 +82,13 @@ unfolding record_of
 record_held ps i end out h k =
     let all : so_far ps i ≡ length (names (entries ps)) ∷ names (entries ps) = ap (λ l. length ps ∷ names (entries l)) (take_all i ps h) ∙ ap (λ n. n ∷ names (entries ps)) (sym (length_pages_named ps)) in
     k.text ∙ ap (λ n. leb_all (so_far ps i) ++ replicate (256 - n) 0) k.at ∙ ap (λ l. leb_all l ++ replicate (256 - length (leb_all l)) 0) all
+
+-- so a number always goes in
+pub holds_some : (ns : List ℕ) (n end : ℕ) (out : List ℕ) → length ns ≤ 7 → Holds ns end out → (new : List ℕ) (r : Option ℕ) → Written (leb n) end out new r → IsSome r
+holds_some ns n end out few h new (Some k) w = refl
+holds_some ns n end out few h new None w = absurd (holds_fits ns n end out few h new w)
+
+-- the empty record is all zeros
+pub blank_is : replicate 256 0 ≡ record_of []
+unfolding record_of leb lebs
+blank_is = refl

@@ -1,21 +1,16 @@
 -- The pages that an open group has put, as writes to pages in the order of their first put.
-use Rattle.std.specs.Prelude.{◌≡◌, ℕ, zero, suc, Bool, true, false, cond, List, [], ◌∷◌, Some, None, Option, ◌==◌, ◌≢◌}
+use Rattle.std.specs.Prelude.{◌≡◌, ℕ, zero, suc, cond, List, [], ◌∷◌, Some, None, Ok, Err, Option, Result, ◌==◌, ◌≢◌}
 use Rattle.disk.specs.Runs.{Write}
-use Rattle.journal.specs.declared.group.Pending.{Pending}
 
-abbrev pub entries : List Pending → List Write
-entries [] = []
-entries (p ∷ ps) = (p.page, p.bytes) ∷ entries ps
-
--- the first entry of the page is at i
-abbrev pub First : ℕ → List Pending → ℕ → Type 0
+-- the first write of the page is at i
+abbrev pub First : ℕ → List Write → ℕ → Type 0
 First page [] i = ⊥
-First page (p ∷ ps) zero = p.page ≡ page
-First page (p ∷ ps) (suc i) = (p.page ≢ page) × First page ps i
+First page (w ∷ ws) zero = w.0 ≡ page
+First page (w ∷ ws) (suc i) = (w.0 ≢ page) × First page ws i
 
-abbrev pub Absent : ℕ → List Pending → Type 0
+abbrev pub Absent : ℕ → List Write → Type 0
 Absent page [] = Unit {0}
-Absent page (p ∷ ps) = (p.page ≢ page) × Absent page ps
+Absent page (w ∷ ws) = (w.0 ≢ page) × Absent page ws
 
 -- what a group has put to a page
 abbrev pub looked_up : ℕ → List Write → Option (List ℕ)
@@ -27,7 +22,7 @@ abbrev pub remembered : ℕ → List ℕ → List Write → List Write
 remembered n v [] = (n, v) ∷ []
 remembered n v (w ∷ ws) = cond (w.0 == n) ((n, v) ∷ ws) (w ∷ remembered n v ws)
 
--- the answer of a reader that says whether it could read, and leaves what it read
-abbrev pub told : Bool → List ℕ → Option (List ℕ)
-told true ns = Some ns
-told false ns = None
+-- what a reader read that could read, and left so
+abbrev pub told : {E : Type 0} → Result Unit E → List ℕ → Option (List ℕ)
+told (Ok x) ns = Some ns
+told (Err e) ns = None

@@ -1,16 +1,12 @@
 -- Where the journal keeps what: block 0 is the commit record, blocks 1 to 6 are frames, page p is block 7 + p.
-use Rattle.std.specs.Prelude.{ℕ, zero, suc, ◌+◌, ◌-◌, cond, List, [], ◌∷◌, ◌++◌, length, drop, Some, None, Option, ◌==◌, slice_index_or}
+use Rattle.std.specs.Prelude.{ℕ, ◌+◌, ◌-◌, List, [], ◌∷◌, ◌++◌, length, drop, Some, None, Option, slice_index_or}
 use Rattle.disk.specs.Runs.{Write, stored}
+use Rattle.journal.specs.Names.{names}
 use Rattle.journal.specs.Record.{named, record_of, blank}
 use Rattle.journal.specs.declared.writes.Side.{Side}
 use Rattle.journal.specs.declared.writes.Side.TheVariants as side
 use Rattle.journal.specs.declared.writes.Part.{Part}
 use Rattle.journal.specs.declared.writes.Part.TheVariants as part
-
--- the numbers of the pages written
-abbrev pub names : List Write → List ℕ
-names [] = []
-names (w ∷ ws) = w.0 ∷ names ws
 
 -- frame i on hold the bytes of these pages
 abbrev pub framed : ℕ → List ℕ → List (List ℕ) → List Write
@@ -65,22 +61,19 @@ abbrev pub writes_to : Side → ℕ → List Write → List Write
 writes_to s i [] = []
 writes_to s i (w ∷ ws) = (block_at s i w.0, w.1) ∷ writes_to s (i + 1) ws
 
--- the parts of a commit in their order: the frames, the record that names their pages, the pages, the empty record
-abbrev pub part_at : ℕ → Part
-part_at n = cond (n == 0) part.Frames (cond (n == 1) part.Record (cond (n == 2) part.Pages part.EmptyRecord))
-
+-- the writes of each part of a commit
 abbrev pub part_writes : Part → List Write → List Write
 part_writes part.Frames ws = writes_to side.Frames 0 ws
 part_writes part.Record ws = (0, record_of (names ws)) ∷ []
 part_writes part.Pages ws = writes_to side.Pages 0 ws
 part_writes part.EmptyRecord ws = (0, blank) ∷ []
 
--- so many parts from a step on
-abbrev pub parts_from : ℕ → ℕ → List Write → List Write
-parts_from zero step ws = []
-parts_from (suc left) step ws = part_writes (part_at step) ws ++ parts_from left (step + 1) ws
+-- these parts, one after the other
+abbrev pub all_writes : List Part → List Write → List Write
+all_writes [] ws = []
+all_writes (p ∷ ps) ws = part_writes p ws ++ all_writes ps ws
 
--- a commit from a step on: nothing for no pages
-abbrev pub writes_from : ℕ → List Write → List Write
-writes_from first [] = []
-writes_from first (w ∷ ws) = parts_from (4 - first) first (w ∷ ws)
+-- these parts of a commit of a group: nothing for no pages
+abbrev pub writes_of : List Part → List Write → List Write
+writes_of ps [] = []
+writes_of ps (w ∷ ws) = all_writes ps (w ∷ ws)

@@ -1,7 +1,10 @@
 pub mod Record
 pub mod Layout
 pub mod Groups
+pub mod Entries
+pub mod Names
 pub mod Meaning
+pub mod Once
 pub mod Stages
 pub mod Stored
 pub mod Records

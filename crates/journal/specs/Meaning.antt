@@ -1,5 +1,5 @@
 -- A journal as a store: what it means, worked out from the blocks alone but for the open group.
-use Rattle.std.specs.Prelude.{◌≡◌, ℕ, ◌+◌, ◌*◌, ◌<◌, ◌≤◌, Bool, true, false, List, [], ◌∷◌, length, Some, None, Ok, Err, vec_items, Option, Result}
+use Rattle.std.specs.Prelude.{◌≡◌, ℕ, ◌+◌, ◌*◌, ◌<◌, ◌≤◌, Bool, true, false, List, [], ◌∷◌, length, Some, None, Ok, Err, Option, Result}
 use Rattle.refusal.specs.declared.Refusal.{Refusal}
 use Rattle.refusal.specs.declared.Reason.TheVariants.{Damaged}
 use Rattle.refusal.specs.Refusals.{refusal, darkened}
@@ -7,12 +7,12 @@ use Rattle.disk.specs.Device.{Device}
 use Rattle.disk.specs.Runs.{Write, stored, ran, ran_answer}
 use Rattle.store.specs.declared.Shape.{Shape}
 use Rattle.store.specs.Meaning.{Cells, Finding, sound, damaged, Stage, idle, grouped, dark, due, Content}
-use Rattle.journal.specs.declared.state.Journal.{Journal}
 use Rattle.journal.specs.declared.state.Mode.{Mode}
 use Rattle.journal.specs.declared.state.Mode.TheVariants.{Due, Idle, Open}
 use Rattle.journal.specs.Record.{Different}
-use Rattle.journal.specs.Layout.{names, cells_of, naming, durable, commit_writes, recover_writes}
-use Rattle.journal.specs.Groups.{entries, looked_up}
+use Rattle.journal.specs.Names.{names}
+use Rattle.journal.specs.Layout.{cells_of, naming, durable, commit_writes, recover_writes}
+use Rattle.journal.specs.Groups.{looked_up}
 
 abbrev pub shape_of : List (List ℕ) → Shape
 shape_of b = record { layer = 1; cells = cells_of b; size = 256; limit = 6 }
@@ -22,30 +22,34 @@ abbrev pub finding_of : Option (List ℕ) → Finding
 finding_of None = damaged 1 0
 finding_of (Some ps) = sound
 
-abbrev pub live : Mode → Finding → Cells → ℕ → Stage
-live Due f w p = due f
-live Idle f w p = idle
-live Open f w p = grouped w p
+abbrev pub live : Mode → Finding → Cells → Stage
+live Due f w = due f
+live Idle f w = idle
+live (Open p) f w = grouped w p
 
-abbrev pub staged : Bool → Mode → Finding → Cells → ℕ → Stage
-staged true m f w p = live m f w p
-staged false m f w p = dark f
+abbrev pub staged : Bool → Mode → Finding → Cells → Stage
+staged true m f w = live m f w
+staged false m f w = dark f
 
 -- a journal by whether its disk has power, its blocks, its mode and its group
-abbrev pub content : Bool → List (List ℕ) → Mode → List Write → ℕ → Content
-content on b m ws p = record { shape = shape_of b; durable = durable b; stage = staged on m (finding_of (naming b)) (stored ws (durable b)) p }
+abbrev pub content : Bool → List (List ℕ) → Mode → List Write → Content
+content on b m ws = record { shape = shape_of b; durable = durable b; stage = staged on m (finding_of (naming b)) (stored ws (durable b)) }
 
-abbrev pub group_of : {D : Type 0} → Journal D → List Write
-group_of j = entries (vec_items j.group.pages)
+-- a journal by its disk, its mode and its group
+abbrev pub meaning : Device → Mode → List Write → Content
+meaning d m ws = content d.powered d.blocks m ws
 
-abbrev pub meaning : {D : Type 0} → (D → Device) → Journal D → Content
-meaning f j = content (f j.disk).powered (f j.disk).blocks j.mode (group_of j) j.puts
+-- the puts of the open group so far
+abbrev pub puts_of : Mode → ℕ
+puts_of Due = 0
+puts_of Idle = 0
+puts_of (Open p) = p
 
 -- what the open group has put to a page
 abbrev pub pended : Mode → ℕ → List Write → Option (List ℕ)
 pended Due n ws = None
 pended Idle n ws = None
-pended Open n ws = looked_up n ws
+pended (Open p) n ws = looked_up n ws
 
 -- each page put has the bytes of a block
 abbrev pub Sized : List Write → Type 0
@@ -63,34 +67,34 @@ pub record Grouped (b : List (List ℕ)) (ws : List Write) (p : ℕ) : Type 0 wh
 abbrev pub RecordBlank : Bool → List (List ℕ) → Mode → Type 0
 RecordBlank true b Due = Unit {0}
 RecordBlank true b Idle = naming b ≡ Some []
-RecordBlank true b Open = naming b ≡ Some []
+RecordBlank true b (Open p) = naming b ≡ Some []
 RecordBlank false b m = Unit {0}
 
-abbrev pub Opened : List (List ℕ) → Mode → List Write → ℕ → Type 0
-Opened b Due ws p = Unit {0}
-Opened b Idle ws p = Unit {0}
-Opened b Open ws p = Grouped b ws p
+abbrev pub Opened : List (List ℕ) → Mode → List Write → Type 0
+Opened b Due ws = Unit {0}
+Opened b Idle ws = Unit {0}
+Opened b (Open p) ws = Grouped b ws p
 
 -- what ties a journal to its disk
-pub record Whole (on : Bool) (b : List (List ℕ)) (m : Mode) (ws : List Write) (p : ℕ) : Type 0 where
+pub record Whole (on : Bool) (b : List (List ℕ)) (m : Mode) (ws : List Write) : Type 0 where
   pub record_blank : RecordBlank on b m
-  pub opened : Opened b m ws p
+  pub opened : Opened b m ws
 
-abbrev pub wholly : {D : Type 0} → (D → Device) → Journal D → Type 0
-wholly f j = Whole (f j.disk).powered (f j.disk).blocks j.mode (group_of j) j.puts
+abbrev pub Wholly : Device → Mode → List Write → Type 0
+Wholly d m ws = Whole d.powered d.blocks m ws
 
 -- the disk after a commit, exactly: in use with a group open, the group's writes were made up to the first that power cut
 abbrev pub committed : Bool → Mode → List Write → Device → Device
 committed true Due ws d = d
 committed true Idle ws d = d
-committed true Open ws d = ran (commit_writes ws) d
+committed true (Open p) ws d = ran (commit_writes ws) d
 committed false m ws d = d
 
 -- the disk after a recovery
 abbrev pub recovered : Bool → Mode → Device → Device
 recovered true Due d = ran (recover_writes (naming d.blocks) d.blocks) d
 recovered true Idle d = d
-recovered true Open d = d
+recovered true (Open p) d = d
 recovered false m d = d
 
 -- what recovery answers of a powered disk
@@ -110,5 +114,5 @@ pub record ByCharge (ws : List Write) (d : Device) (r : Result Unit Refusal) (af
 abbrev pub Lawfully : Bool → Mode → List Write → Device → Result Unit Refusal → Device → Type 0
 Lawfully true Due ws d r after = Unit {0}
 Lawfully true Idle ws d r after = Unit {0}
-Lawfully true Open ws d r after = ByCharge ws d r after
+Lawfully true (Open p) ws d r after = ByCharge ws d r after
 Lawfully false m ws d r after = Unit {0}

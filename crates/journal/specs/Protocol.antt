@@ -9,7 +9,8 @@ use Rattle.std.proofs.lemmas.List.{take_all, drop-set-lt, take-append-le}
 use Rattle.std.proofs.lemmas.Bool.{cases_lt}
 use Rattle.disk.specs.Runs.{Write, stored, Inside}
 use Rattle.journal.specs.Record.{record_of, blank, named, Different}
-use Rattle.journal.specs.Layout.{names, framed, overlaid, cells_of, naming, durable, frame_writes, page_writes, copy_writes}
+use Rattle.journal.specs.Names.{names}
+use Rattle.journal.specs.Layout.{framed, overlaid, cells_of, naming, durable, frame_writes, page_writes, copy_writes}
 use Rattle.journal.specs.Stored.{stored_append, length_stored, Avoids, stored_other, stored_low, absorbed, covered_take, pages_stored, pages_avoid, take_pages, frames_low, frames_avoid, framed_same, framed_written}
 use Rattle.journal.specs.Records.{named_back, named_are}
 

@@ -2,6 +2,7 @@
 use Rattle.std.specs.Prelude.{◌≡◌, ℕ, zero, suc, ◌-◌, ◌<◌, ◌≤◌, Bool, true, false, cond, not, ◌&&◌, List, [], ◌∷◌, ◌++◌, length, replicate, Some, None, Option, ◌==◌, nat_le, nat_lt}
 use Rattle.std.specs.List.{AllByRecursion}
 use Rattle.number.specs.Leb.{leb_all, reading}
+use Rattle.number.specs.Zeros.{zeros}
 
 -- the record that names these pages
 unfoldable pub record_of : List ℕ → List ℕ
@@ -15,10 +16,6 @@ abbrev pub member : ℕ → List ℕ → Bool
 member n [] = false
 member n (x ∷ xs) = cond (x == n) true (member n xs)
 
-abbrev pub all_zero : List ℕ → Bool
-all_zero [] = true
-all_zero (b ∷ bs) = cond (b == 0) (all_zero bs) false
-
 -- one page more: it is one of the store's, and was not named before
 abbrev pub page_next : ℕ → List ℕ → Option (ℕ × List ℕ) → (List ℕ → List ℕ → Option (List ℕ)) → Option (List ℕ)
 page_next cells seen None more = None
@@ -26,7 +23,7 @@ page_next cells seen (Some (p, rest)) more = cond (nat_lt p cells && not (member
 
 -- k pages more, then zeros
 unfoldable pub pages_from : ℕ → ℕ → List ℕ → List ℕ → Option (List ℕ)
-pages_from zero cells seen bs = cond (all_zero bs) (Some seen) None
+pages_from zero cells seen bs = cond (zeros bs) (Some seen) None
 pages_from (suc k) cells seen bs = page_next cells seen (reading bs) (pages_from k cells)
 
 abbrev pub counted : ℕ → Option (ℕ × List ℕ) → Option (List ℕ)

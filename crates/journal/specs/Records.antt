@@ -1,5 +1,5 @@
 -- The commit record: what is written is read back, and what is read names pages that are there. Assumes nothing.
-use Rattle.std.specs.Prelude.{◌≡◌, ℕ, zero, suc, ◌+◌, ◌-◌, ◌^◌, ◌<◌, ◌≤◌, Bool, true, false, cond, not, ◌&&◌, ◌⊎◌, List, [], ◌∷◌, ◌++◌, length, replicate, Some, None, Option, ◌==◌, ◌≢◌, nat_le, nat_lt}
+use Rattle.std.specs.Prelude.{◌≡◌, ℕ, zero, suc, ◌+◌, ◌-◌, ◌^◌, ◌<◌, ◌≤◌, true, false, cond, not, ◌&&◌, ◌⊎◌, List, [], ◌∷◌, ◌++◌, length, replicate, is_ok, Some, None, Ok, Err, Option, Result, ◌==◌, ◌≢◌, nat_le, nat_lt}
 use Rattle.std.proofs.Math.Path.{refl, ap, subst}
 use Rattle.std.proofs.Common.{sym, ◌∙◌, append_assoc, inl, inr, arith, length-append}
 use Rattle.std.proofs.Math.Logic.{⊎_elim}
@@ -7,7 +7,8 @@ use Rattle.std.proofs.lemmas.Bool.{cases_eq, cases_Bool, eq-eqb, ne_eqb, lt-ltb,
 use Rattle.number.specs.Leb.{leb_all, reading}
 use Rattle.number.specs.Leb as number
 use Rattle.number.proofs.Numbers.{reading_leb}
-use Rattle.journal.specs.Record.{record_of, member, all_zero, page_next, pages_from, counted, named, Different, Below}
+use Rattle.number.specs.Zeros.{zeros, zeros_replicate}
+use Rattle.journal.specs.Record.{record_of, member, page_next, pages_from, counted, named, Different, Below}
 use Rattle.journal.specs.Groups.{told}
 use Rattle.journal.specs.Stored.{member_here}
 
@@ -52,15 +53,11 @@ different_below cells (p ∷ ps) d = (d.0, different_below cells ps d.2)
 Apart : List ℕ → List ℕ → Type 0
 Apart seen ps = (x : ℕ) → member x seen ≡ true → member x ps ≡ false
 
-zeros_zero : (n : ℕ) → all_zero (replicate n 0) ≡ true
-zeros_zero zero = refl
-zeros_zero (suc n) = zeros_zero n
-
 module _ (cells : ℕ) (few : cells ≤ 2 ^ 32) (n : ℕ) where
   -- the pages that a record names are read back
   pages_back : (ps seen : List ℕ) → Different cells ps → Apart seen ps → pages_from (length ps) cells seen (leb_all ps ++ replicate n 0) ≡ Some (seen ++ ps)
   unfolding pages_from Apart
-  pages_back [] seen d a = cond-true (all_zero (replicate n 0)) (Some seen) None (zeros_zero n) ∙ ap Some (sym (append_none seen))
+  pages_back [] seen d a = cond-true (zeros (replicate n 0)) (Some seen) None (zeros_replicate n) ∙ ap Some (sym (append_none seen))
     where
       append_none : (xs : List ℕ) → xs ++ [] ≡ xs
       append_none [] = refl
@@ -111,9 +108,9 @@ pages_are : (cells k : ℕ) (seen bs ps : List ℕ) → pages_from k cells seen 
 unfolding pages_from
 pages_are cells zero seen bs ps e b =
     ⊎_elim
-    (λ t. let same : seen ≡ ps = some_same (sym (cond-true (all_zero bs) (Some seen) None t) ∙ e) in subst (λ l. (length l ≡ length seen + 0) × Below cells l) same (omega arith, b))
-    (λ f. none_some (sym (cond-false (all_zero bs) (Some seen) None f) ∙ e))
-    (cases_Bool (all_zero bs))
+    (λ t. let same : seen ≡ ps = some_same (sym (cond-true (zeros bs) (Some seen) None t) ∙ e) in subst (λ l. (length l ≡ length seen + 0) × Below cells l) same (omega arith, b))
+    (λ f. none_some (sym (cond-false (zeros bs) (Some seen) None f) ∙ e))
+    (cases_Bool (zeros bs))
   where
     some_same : {xs ys : List ℕ} → Some xs ≡ Some ys → xs ≡ ys
     some_same q = cc
@@ -138,14 +135,11 @@ named_are cells bs ps e = go (reading bs) e
         (cases_Bool (nat_le k 6))
 
 -- the steps of a reader
-pub pages_end : (k cells : ℕ) (seen bs : List ℕ) → k ≡ 0 → told (all_zero bs) seen ≡ pages_from k cells seen bs
+pub pages_end : {E : Type 0} (k cells : ℕ) (seen bs : List ℕ) (r : Result Unit E) → k ≡ 0 → is_ok r ≡ zeros bs → told r seen ≡ pages_from k cells seen bs
 unfolding pages_from
-pages_end zero cells seen bs e = go (all_zero bs)
-  where
-    go : (t : Bool) → told t seen ≡ cond t (Some seen) None
-    go true = refl
-    go false = refl
-pages_end (suc k) cells seen bs e = absurd (omega arith)
+pages_end zero cells seen bs (Ok x) e q = sym (cond-true (zeros bs) (Some seen) None (sym q))
+pages_end zero cells seen bs (Err x) e q = sym (cond-false (zeros bs) (Some seen) None (sym q))
+pages_end (suc k) cells seen bs r e q = absurd (omega arith)
 
 pub pages_unread : (k cells : ℕ) (seen bs : List ℕ) → (k ≢ 0) → None ≡ reading bs → None ≡ pages_from k cells seen bs
 unfolding pages_from

@@ -16,9 +16,10 @@ use Rattle.store.specs.Meaning as call
 use Rattle.journal.specs.declared.state.Mode.{Mode}
 use Rattle.journal.specs.declared.state.Mode.TheVariants.{Due, Idle, Open}
 use Rattle.journal.specs.Record.{member, Different}
-use Rattle.journal.specs.Layout.{names, cells_of, naming, durable, framed, overlaid}
+use Rattle.journal.specs.Names.{names}
+use Rattle.journal.specs.Layout.{cells_of, naming, durable, framed, overlaid}
 use Rattle.journal.specs.Groups.{looked_up, remembered}
-use Rattle.journal.specs.Meaning.{content, finding_of, Sized, Grouped, RecordBlank, Opened, Whole, pended}
+use Rattle.journal.specs.Meaning.{content, finding_of, puts_of, Sized, Grouped, RecordBlank, Opened, Whole, pended}
 use Rattle.journal.specs.Stored.{length_stored}
 use Rattle.journal.specs.Records.{different_more, named_are}
 use Rattle.journal.specs.Protocol.{durable_at}
@@ -35,10 +36,10 @@ pub answer_ok : (o : Option Refusal) (x : Unit) → Ok x ≡ answer o → o ≡ 
 answer_ok None x q = refl
 answer_ok (Some f) x q = let z : ◌≡◌ {A = ℕ} 0 1 = cc in absurd (omega arith)
 
-module _ (on : Bool) (b : List (List ℕ)) (mode : Mode) (ws : List Write) (p : ℕ) where
+module _ (on : Bool) (b : List (List ℕ)) (mode : Mode) (ws : List Write) where
   -- a call whose phase is wrong
-  pub refused_phase : (k : Call) (n : Needs) (e : Refusal) → (barring n (content on b mode ws p) ≡ Some e → bar k (content on b mode ws p) ≡ Some e) → Err e ≡ answer (barring n (content on b mode ws p)) → Refused k (content on b mode ws p) e (content on b mode ws p)
-  refused_phase k n e h q = barred (h (answer_err (barring n (content on b mode ws p)) e q)) refl
+  pub refused_phase : (k : Call) (n : Needs) (e : Refusal) → (barring n (content on b mode ws) ≡ Some e → bar k (content on b mode ws) ≡ Some e) → Err e ≡ answer (barring n (content on b mode ws)) → Refused k (content on b mode ws) e (content on b mode ws)
+  refused_phase k n e h q = barred (h (answer_err (barring n (content on b mode ws)) e q)) refl
 
 -- the phase is the first thing that bars a call
 pub first_begin : (m : Content) (e : Refusal) → barring needs.Idle m ≡ Some e → bar call.begin m ≡ Some e
@@ -70,72 +71,72 @@ pub record Stands (on : Bool) (mode mode' : Mode) : Type 0 where
   pub lit : on ≡ true
   pub at : mode ≡ mode'
 
-module _ (b : List (List ℕ)) (ws : List Write) (p : ℕ) where
-  pub stands_idle : (on : Bool) (mode : Mode) → barring needs.Idle (content on b mode ws p) ≡ None → Stands on mode Idle
+module _ (b : List (List ℕ)) (ws : List Write) where
+  pub stands_idle : (on : Bool) (mode : Mode) → barring needs.Idle (content on b mode ws) ≡ None → Stands on mode Idle
   stands_idle true Idle h = record { lit = refl; at = refl }
   stands_idle true Due h = absurd (let z : ◌≡◌ {A = ℕ} 0 1 = cc in omega arith)
-  stands_idle true Open h = absurd (let z : ◌≡◌ {A = ℕ} 0 1 = cc in omega arith)
+  stands_idle true (Open p) h = absurd (let z : ◌≡◌ {A = ℕ} 0 1 = cc in omega arith)
   stands_idle false mode h = absurd (let z : ◌≡◌ {A = ℕ} 0 1 = cc in omega arith)
 
-  pub stands_open : (on : Bool) (mode : Mode) → barring needs.Open (content on b mode ws p) ≡ None → Stands on mode Open
-  stands_open true Open h = record { lit = refl; at = refl }
+  pub stands_open : (on : Bool) (mode : Mode) → barring needs.Open (content on b mode ws) ≡ None → Stands on mode (Open (puts_of mode))
+  stands_open true (Open p) h = record { lit = refl; at = refl }
   stands_open true Due h = absurd (let z : ◌≡◌ {A = ℕ} 0 1 = cc in omega arith)
   stands_open true Idle h = absurd (let z : ◌≡◌ {A = ℕ} 0 1 = cc in omega arith)
   stands_open false mode h = absurd (let z : ◌≡◌ {A = ℕ} 0 1 = cc in omega arith)
 
-  pub stands_due : (on : Bool) (mode : Mode) → barring needs.Due (content on b mode ws p) ≡ None → Stands on mode Due
+  pub stands_due : (on : Bool) (mode : Mode) → barring needs.Due (content on b mode ws) ≡ None → Stands on mode Due
   stands_due true Due h = record { lit = refl; at = refl }
-  stands_due true Open h = absurd (let z : ◌≡◌ {A = ℕ} 0 1 = cc in omega arith)
+  stands_due true (Open p) h = absurd (let z : ◌≡◌ {A = ℕ} 0 1 = cc in omega arith)
   stands_due true Idle h = absurd (let z : ◌≡◌ {A = ℕ} 0 1 = cc in omega arith)
   stands_due false mode h = absurd (let z : ◌≡◌ {A = ℕ} 0 1 = cc in omega arith)
 
-  pub stands_live : (on : Bool) (mode : Mode) → barring needs.Live (content on b mode ws p) ≡ None → Stands on mode Idle ⊎ Stands on mode Open
+  pub stands_live : (on : Bool) (mode : Mode) → barring needs.Live (content on b mode ws) ≡ None → Stands on mode Idle ⊎ Stands on mode (Open (puts_of mode))
   stands_live true Idle h = inl (record { lit = refl; at = refl })
-  stands_live true Open h = inr (record { lit = refl; at = refl })
+  stands_live true (Open p) h = inr (record { lit = refl; at = refl })
   stands_live true Due h = absurd (let z : ◌≡◌ {A = ℕ} 0 1 = cc in omega arith)
   stands_live false mode h = absurd (let z : ◌≡◌ {A = ℕ} 0 1 = cc in omega arith)
 
 -- begin
-pub begun : (on : Bool) (b : List (List ℕ)) (mode : Mode) (ws none : List Write) (p : ℕ) → Stands on mode Idle → none ≡ [] → Granted call.begin (content on b mode ws p) (content on b Open none 0)
+pub begun : (on : Bool) (b : List (List ℕ)) (mode : Mode) (ws none : List Write) → Stands on mode Idle → none ≡ [] → Granted call.begin (content on b mode ws) (content on b (Open 0) none)
 unfolding bar next
-begun on b mode ws none p s e =
-    subst (λ (x : Bool). Granted call.begin (content x b mode ws p) (content x b Open none 0)) (sym s.lit)
-    (subst (λ (x : Mode). Granted call.begin (content true b x ws p) (content true b Open none 0)) (sym s.at)
-    (subst (λ (x : List Write). Granted call.begin (content true b Idle ws p) (content true b Open x 0)) (sym e) (record { free = refl; leaves = refl })))
+begun on b mode ws none s e =
+    subst (λ (x : Bool). Granted call.begin (content x b mode ws) (content x b (Open 0) none)) (sym s.lit)
+    (subst (λ (x : Mode). Granted call.begin (content true b x ws) (content true b (Open 0) none)) (sym s.at)
+    (subst (λ (x : List Write). Granted call.begin (content true b Idle ws) (content true b (Open 0) x)) (sym e) (record { free = refl; leaves = refl })))
 
-pub begun_whole : (on : Bool) (b : List (List ℕ)) (mode : Mode) (ws none : List Write) (p : ℕ) → Stands on mode Idle → none ≡ [] → Whole on b mode ws p → Whole on b Open none 0
-begun_whole on b mode ws none p s e w =
+pub begun_whole : (on : Bool) (b : List (List ℕ)) (mode : Mode) (ws none : List Write) → Stands on mode Idle → none ≡ [] → Whole on b mode ws → Whole on b (Open 0) none
+begun_whole on b mode ws none s e w =
     record { record_blank = go on mode s.lit s.at w.record_blank; opened = subst (λ (x : List Write). Grouped b x 0) (sym e) (record { different = tt; sized = tt; few = omega arith; most = omega arith }) }
   where
-    go : (on : Bool) (mode : Mode) → on ≡ true → mode ≡ Idle → RecordBlank on b mode → RecordBlank on b Open
+    go : (on : Bool) (mode : Mode) → on ≡ true → mode ≡ Idle → RecordBlank on b mode → RecordBlank on b (Open 0)
     go true Idle p q t = t
     go true Due p q t = absurd (let z : ◌≡◌ {A = ℕ} 0 1 = cc in omega arith)
-    go true Open p q t = t
+    go true (Open k) p q t = t
     go false mode p q t = tt
 
 -- abort
-pub aborted : (on : Bool) (b : List (List ℕ)) (mode : Mode) (ws : List Write) (p : ℕ) → Stands on mode Open → Granted call.abort (content on b mode ws p) (content on b Idle ws p)
+pub aborted : (on : Bool) (b : List (List ℕ)) (mode : Mode) (ws : List Write) (p : ℕ) → Stands on mode (Open p) → Granted call.abort (content on b mode ws) (content on b Idle ws)
 unfolding bar next
 aborted on b mode ws p s =
-    subst (λ (x : Bool). Granted call.abort (content x b mode ws p) (content x b Idle ws p)) (sym s.lit)
-    (subst (λ (x : Mode). Granted call.abort (content true b x ws p) (content true b Idle ws p)) (sym s.at) (record { free = refl; leaves = refl }))
+    subst (λ (x : Bool). Granted call.abort (content x b mode ws) (content x b Idle ws)) (sym s.lit)
+    (subst (λ (x : Mode). Granted call.abort (content true b x ws) (content true b Idle ws)) (sym s.at) (record { free = refl; leaves = refl }))
 
-pub aborted_whole : (on : Bool) (b : List (List ℕ)) (mode : Mode) (ws : List Write) (p : ℕ) → Stands on mode Open → Whole on b mode ws p → Whole on b Idle ws p
+pub aborted_whole : (on : Bool) (b : List (List ℕ)) (mode : Mode) (ws : List Write) (p : ℕ) → Stands on mode (Open p) → Whole on b mode ws → Whole on b Idle ws
 aborted_whole on b mode ws p s w = record { record_blank = go on mode s.at w.record_blank; opened = tt }
   where
-    go : (on : Bool) (mode : Mode) → mode ≡ Open → RecordBlank on b mode → RecordBlank on b Idle
+    go : (on : Bool) (mode : Mode) → mode ≡ Open p → RecordBlank on b mode → RecordBlank on b Idle
     go true Idle q t = t
     go true Due q t = absurd (let z : ◌≡◌ {A = ℕ} 0 1 = cc in omega arith)
-    go true Open q t = t
+    go true (Open k) q t = t
     go false mode q t = tt
 
 -- power
-pub powered : (on : Bool) (b : List (List ℕ)) (mode : Mode) (ws : List Write) (p c : ℕ) → RecordBlank on b mode → content true b Due ws p ≡ next (call.power c) (content on b mode ws p)
+pub powered : (on : Bool) (b : List (List ℕ)) (mode : Mode) (ws : List Write) (c : ℕ) → RecordBlank on b mode → content true b Due ws ≡ next (call.power c) (content on b mode ws)
 unfolding next
-powered true b Due ws p c w = refl
-powered true b Idle ws p c w = ap (λ (x : call.Finding). record { shape = (content true b Due ws p).shape; durable = durable b; stage = call.due x }) (ap finding_of w)
-powered true b Open ws p c w = ap (λ (x : call.Finding). record { shape = (content true b Due ws p).shape; durable = durable b; stage = call.due x }) (ap finding_of w)
-powered false b mode ws p c w = refl
+powered true b Due ws c w = refl
+powered true b Idle ws c w = ap (λ (x : call.Finding). record { shape = (content true b Due ws).shape; durable = durable b; stage = call.due x }) (ap finding_of w)
+powered true b (Open p) ws c w = ap (λ (x : call.Finding). record { shape = (content true b Due ws).shape; durable = durable b; stage = call.due x }) (ap finding_of w)
+powered false b mode ws c w = refl
 
 -- put: what the working content becomes
 stored_comm : (n : ℕ) (v : List ℕ) (ws : List Write) (c : List (List ℕ)) → member n (names ws) ≡ false → stored ws (slice_set c n v) ≡ slice_set (stored ws c) n v
@@ -198,18 +199,18 @@ grouped_put b ws p n v g h l few = record {
 }
 
 module _ (b : List (List ℕ)) (ws : List Write) (p n : ℕ) (v : List ℕ) where
-  pub put_granted : n < cells_of b → p < 6 → length v ≡ 256 → Grouped b ws p → Granted (call.put n v) (content true b Open ws p) (content true b Open (remembered n v ws) (p + 1))
+  pub put_granted : n < cells_of b → p < 6 → length v ≡ 256 → Grouped b ws p → Granted (call.put n v) (content true b (Open p) ws) (content true b (Open (p + 1)) (remembered n v ws))
   unfolding bar next
   put_granted h few l g = record {
     free = ap (λ t. or_else (cond t None (Some (refusal reason.OutOfRange 1 n))) (cond (nat_lt p 6) None (Some (refusal reason.LimitReached 1 6)))) (lt-ltb n (cells_of b) h) ∙ ap (λ t. cond t None (Some (refusal reason.LimitReached 1 6))) (lt-ltb p 6 few);
-    leaves = ap (λ (x : call.Cells). record { shape = (content true b Open ws p).shape; durable = durable b; stage = call.grouped x (p + 1) }) (remembered_stored (cells_of b) n v ws (durable b) g.different ∙ ap (set (stored ws (durable b)) n) (sym (take_all 256 v (omega (arith, l)))));
+    leaves = ap (λ (x : call.Cells). record { shape = (content true b (Open p) ws).shape; durable = durable b; stage = call.grouped x (p + 1) }) (remembered_stored (cells_of b) n v ws (durable b) g.different ∙ ap (set (stored ws (durable b)) n) (sym (take_all 256 v (omega (arith, l)))));
   }
 
-  pub put_beyond : cells_of b ≤ n → bar (call.put n v) (content true b Open ws p) ≡ Some (refusal reason.OutOfRange 1 n)
+  pub put_beyond : cells_of b ≤ n → bar (call.put n v) (content true b (Open p) ws) ≡ Some (refusal reason.OutOfRange 1 n)
   unfolding bar
   put_beyond h = ap (λ t. or_else (cond t None (Some (refusal reason.OutOfRange 1 n))) (cond (nat_lt p 6) None (Some (refusal reason.LimitReached 1 6)))) (le-ltb n (cells_of b) h)
 
-  pub put_full : n < cells_of b → 6 ≤ p → bar (call.put n v) (content true b Open ws p) ≡ Some (refusal reason.LimitReached 1 6)
+  pub put_full : n < cells_of b → 6 ≤ p → bar (call.put n v) (content true b (Open p) ws) ≡ Some (refusal reason.LimitReached 1 6)
   unfolding bar
   put_full h full = ap (λ t. or_else (cond t None (Some (refusal reason.OutOfRange 1 n))) (cond (nat_lt p 6) None (Some (refusal reason.LimitReached 1 6)))) (lt-ltb n (cells_of b) h) ∙ ap (λ t. cond t None (Some (refusal reason.LimitReached 1 6))) (le-ltb p 6 full)
 
@@ -244,13 +245,13 @@ looked_some cells n v (w ∷ ws) c d s h e =
     (λ q. looked_some cells n v ws (slice_set c w.0 w.1) d.2 s.1 (rw (length-set c w.0 w.1) h) (e ∙ cond-false (w.0 == n) (Some w.1) (looked_up n ws) (ne_eqb w.0 n q)))
     (cases_eq w.0 n)
 
-pub get_granted : (on : Bool) (b : List (List ℕ)) (mode : Mode) (ws : List Write) (p n : ℕ) → barring needs.Live (content on b mode ws p) ≡ None → n < cells_of b → Granted (call.get n) (content on b mode ws p) (content on b mode ws p)
+pub get_granted : (on : Bool) (b : List (List ℕ)) (mode : Mode) (ws : List Write) (n : ℕ) → barring needs.Live (content on b mode ws) ≡ None → n < cells_of b → Granted (call.get n) (content on b mode ws) (content on b mode ws)
 unfolding bar next
-get_granted on b mode ws p n l h = record { free = ap (λ o. or_else o (within n (content on b mode ws p).shape)) l ∙ cond-true (nat_lt n (cells_of b)) None (Some (refusal reason.OutOfRange 1 n)) (lt-ltb n (cells_of b) h); leaves = refl }
+get_granted on b mode ws n l h = record { free = ap (λ o. or_else o (within n (content on b mode ws).shape)) l ∙ cond-true (nat_lt n (cells_of b)) None (Some (refusal reason.OutOfRange 1 n)) (lt-ltb n (cells_of b) h); leaves = refl }
 
-pub get_beyond : (on : Bool) (b : List (List ℕ)) (mode : Mode) (ws : List Write) (p n : ℕ) → barring needs.Live (content on b mode ws p) ≡ None → cells_of b ≤ n → bar (call.get n) (content on b mode ws p) ≡ Some (refusal reason.OutOfRange 1 n)
+pub get_beyond : (on : Bool) (b : List (List ℕ)) (mode : Mode) (ws : List Write) (n : ℕ) → barring needs.Live (content on b mode ws) ≡ None → cells_of b ≤ n → bar (call.get n) (content on b mode ws) ≡ Some (refusal reason.OutOfRange 1 n)
 unfolding bar
-get_beyond on b mode ws p n l h = ap (λ o. or_else o (within n (content on b mode ws p).shape)) l ∙ cond-false (nat_lt n (cells_of b)) None (Some (refusal reason.OutOfRange 1 n)) (le-ltb n (cells_of b) h)
+get_beyond on b mode ws n l h = ap (λ o. or_else o (within n (content on b mode ws).shape)) l ∙ cond-false (nat_lt n (cells_of b)) None (Some (refusal reason.OutOfRange 1 n)) (le-ltb n (cells_of b) h)
 
 -- a whole block fills the buffer
 append_none : (xs : List ℕ) → xs ++ [] ≡ xs
@@ -284,38 +285,38 @@ sized_framed : (i : ℕ) (ps : List ℕ) (b : List (List ℕ)) → Each 256 b �
 sized_framed i [] b e h = tt
 sized_framed i (p ∷ ps) b e h = (each_at 256 b (1 + i) e (omega arith), sized_framed (i + 1) ps b e (omega arith))
 
-pub durable_fits : (b : List (List ℕ)) → 8 ≤ length b → Each 256 b → Fitting (content true b Idle [] 0).shape (durable b)
+pub durable_fits : (b : List (List ℕ)) → 8 ≤ length b → Each 256 b → Fitting (content true b Idle []).shape (durable b)
 unfolding durable
 durable_fits b l e = go (naming b) refl
   where
     rest : length (drop 7 b) ≡ length b - 7
     rest = length-drop 7 b
 
-    go : (o : Option (List ℕ)) → naming b ≡ o → Fitting (content true b Idle [] 0).shape (overlaid o b)
+    go : (o : Option (List ℕ)) → naming b ≡ o → Fitting (content true b Idle []).shape (overlaid o b)
     go None q = record { count = rest; even = each_drop 7 b e }
     go (Some ps) q =
         let few = (named_are (cells_of b) (slice_index_or b 0 []) ps q).0 in
         record { count = length_stored (framed 0 ps b) (drop 7 b) ∙ rest; even = each_stored (framed 0 ps b) (drop 7 b) (sized_framed 0 ps b e (omega arith)) (each_drop 7 b e) }
 
-pub journal_formed : (on : Bool) (b : List (List ℕ)) (mode : Mode) (ws : List Write) (p : ℕ) → 8 ≤ length b → length b ≤ 4096 → Each 256 b → Whole on b mode ws p → Formed (content on b mode ws p)
-journal_formed on b mode ws p l m e w = record {
+pub journal_formed : (on : Bool) (b : List (List ℕ)) (mode : Mode) (ws : List Write) → 8 ≤ length b → length b ≤ 4096 → Each 256 b → Whole on b mode ws → Formed (content on b mode ws)
+journal_formed on b mode ws l m e w = record {
   size = inr refl;
   small = omega arith;
   durable = fits;
   group = go on mode w.opened;
 }
   where
-    fits : Fitting (content true b Idle [] 0).shape (durable b)
+    fits : Fitting (content true b Idle []).shape (durable b)
     fits = durable_fits b l e
 
-    go : (on : Bool) (mode : Mode) → Opened b mode ws p → call.Grouping (content on b mode ws p).shape (content on b mode ws p).stage
+    go : (on : Bool) (mode : Mode) → Opened b mode ws → call.Grouping (content on b mode ws).shape (content on b mode ws).stage
     go true Due o = tt
     go true Idle o = tt
-    go true Open o = (record { count = length_stored ws (durable b) ∙ fits.count; even = each_stored ws (durable b) o.sized fits.even }, o.most)
+    go true (Open p) o = (record { count = length_stored ws (durable b) ∙ fits.count; even = each_stored ws (durable b) o.sized fits.even }, o.most)
     go false mode o = tt
 
 -- what a get finds
-module _ (b : List (List ℕ)) (ws : List Write) (p n : ℕ) (l : 8 ≤ length b) (e : Each 256 b) (h : n < cells_of b) where
+module _ (b : List (List ℕ)) (ws : List Write) (n : ℕ) (l : 8 ≤ length b) (e : Each 256 b) (h : n < cells_of b) where
   page_at : naming b ≡ Some [] → slice_index_or (durable b) n [] ≡ slice_index_or b (7 + n) []
   page_at q = ap (λ c. get_or c n []) (durable_at b [] q) ∙ get_or-drop 7 b n []
 
@@ -325,47 +326,47 @@ module _ (b : List (List ℕ)) (ws : List Write) (p n : ℕ) (l : 8 ≤ length b
   whole_block : (x : List ℕ) → x ≡ slice_index_or b (7 + n) [] → call.padded x ≡ slice_index_or b (7 + n) []
   whole_block x q = ap call.padded q ∙ padded_whole (slice_index_or b (7 + n) []) block_size
 
-  pub got_block : (on : Bool) (mode : Mode) → barring needs.Live (content on b mode ws p) ≡ None → Whole on b mode ws p → None ≡ pended mode n ws → call.padded (slice_index_or (working (content on b mode ws p)) n []) ≡ slice_index_or b (7 + n) []
+  pub got_block : (on : Bool) (mode : Mode) → barring needs.Live (content on b mode ws) ≡ None → Whole on b mode ws → None ≡ pended mode n ws → call.padded (slice_index_or (working (content on b mode ws)) n []) ≡ slice_index_or b (7 + n) []
   got_block true Idle live w o = whole_block (slice_index_or (durable b) n []) (page_at w.record_blank)
-  got_block true Open live w o = whole_block (slice_index_or (stored ws (durable b)) n []) (looked_none n ws (durable b) o ∙ page_at w.record_blank)
+  got_block true (Open p) live w o = whole_block (slice_index_or (stored ws (durable b)) n []) (looked_none n ws (durable b) o ∙ page_at w.record_blank)
   got_block true Due live w o = absurd (let z : ◌≡◌ {A = ℕ} 0 1 = cc in omega arith)
   got_block false mode live w o = absurd (let z : ◌≡◌ {A = ℕ} 0 1 = cc in omega arith)
 
-  pub got_page : (v : List ℕ) (on : Bool) (mode : Mode) → barring needs.Live (content on b mode ws p) ≡ None → Whole on b mode ws p → Some v ≡ pended mode n ws → call.padded (slice_index_or (working (content on b mode ws p)) n []) ≡ v
+  pub got_page : (v : List ℕ) (on : Bool) (mode : Mode) → barring needs.Live (content on b mode ws) ≡ None → Whole on b mode ws → Some v ≡ pended mode n ws → call.padded (slice_index_or (working (content on b mode ws)) n []) ≡ v
   got_page v true Idle live w o = clash refl o
-  got_page v true Open live w o =
+  got_page v true (Open p) live w o =
       let fits = (durable_fits b l e).count in
       let k = looked_some (cells_of b) n v ws (durable b) w.opened.different w.opened.sized (omega (arith, fits)) o in
       ap call.padded k.0 ∙ padded_whole v k.1
   got_page v true Due live w o = clash refl o
   got_page v false mode live w o = absurd (let z : ◌≡◌ {A = ℕ} 0 1 = cc in omega arith)
 
-pub live_on : (on : Bool) (b : List (List ℕ)) (mode : Mode) (ws : List Write) (p : ℕ) → barring needs.Live (content on b mode ws p) ≡ None → on ≡ true
-live_on true b mode ws p h = refl
-live_on false b mode ws p h = absurd (let z : ◌≡◌ {A = ℕ} 0 1 = cc in omega arith)
+pub live_on : (on : Bool) (b : List (List ℕ)) (mode : Mode) (ws : List Write) → barring needs.Live (content on b mode ws) ≡ None → on ≡ true
+live_on true b mode ws h = refl
+live_on false b mode ws h = absurd (let z : ◌≡◌ {A = ℕ} 0 1 = cc in omega arith)
 
 pub get_filled : (m : Content) (n : ℕ) (r : Result Unit Refusal) (v old out : List ℕ) → Granted (call.get n) m m → r ≡ Ok tt → out ≡ v → Outcome (call.get n) m r m × Filled r v old out
 get_filled m n (Ok x) v old out g e f = (g, f)
 get_filled m n (Err x) v old out g e f = absurd (let z : ◌≡◌ {A = ℕ} 0 1 = cc in omega arith)
 
 -- a put that the open group takes
-pub put_call : (on : Bool) (b : List (List ℕ)) (mode : Mode) (ws now : List Write) (p n : ℕ) (v : List ℕ) → Stands on mode Open → Whole on b mode ws p → n < cells_of b → p < 6 → length v ≡ 256 → now ≡ remembered n v ws
-    → Granted (call.put n v) (content on b mode ws p) (content on b mode now (p + 1)) × Whole on b mode now (p + 1)
-put_call true b Open ws now p n v s w h few l e =
-    subst (λ (x : List Write). Granted (call.put n v) (content true b Open ws p) (content true b Open x (p + 1)) × Whole true b Open x (p + 1)) (sym e)
+pub put_call : (on : Bool) (b : List (List ℕ)) (mode : Mode) (ws now : List Write) (n : ℕ) (v : List ℕ) → Stands on mode (Open (puts_of mode)) → Whole on b mode ws → n < cells_of b → puts_of mode < 6 → length v ≡ 256 → now ≡ remembered n v ws
+    → Granted (call.put n v) (content on b mode ws) (content on b (Open (puts_of mode + 1)) now) × Whole on b (Open (puts_of mode + 1)) now
+put_call true b (Open p) ws now n v s w h few l e =
+    subst (λ (x : List Write). Granted (call.put n v) (content true b (Open p) ws) (content true b (Open (p + 1)) x) × Whole true b (Open (p + 1)) x) (sym e)
     (put_granted b ws p n v h few l w.opened, record { record_blank = w.record_blank; opened = grouped_put b ws p n v w.opened h l few })
-put_call true b Due ws now p n v s w h few l e = absurd (let q = s.at in let z : ◌≡◌ {A = ℕ} 0 1 = cc in omega arith)
-put_call true b Idle ws now p n v s w h few l e = absurd (let q = s.at in let z : ◌≡◌ {A = ℕ} 0 1 = cc in omega arith)
-put_call false b mode ws now p n v s w h few l e = absurd (let q = s.lit in let z : ◌≡◌ {A = ℕ} 0 1 = cc in omega arith)
+put_call true b Due ws now n v s w h few l e = absurd (let q = s.at in let z : ◌≡◌ {A = ℕ} 0 1 = cc in omega arith)
+put_call true b Idle ws now n v s w h few l e = absurd (let q = s.at in let z : ◌≡◌ {A = ℕ} 0 1 = cc in omega arith)
+put_call false b mode ws now n v s w h few l e = absurd (let q = s.lit in let z : ◌≡◌ {A = ℕ} 0 1 = cc in omega arith)
 
 -- one that it does not
-pub put_refused : (on : Bool) (b : List (List ℕ)) (mode : Mode) (ws : List Write) (p n : ℕ) (v : List ℕ) (e : Refusal) → Stands on mode Open → bar (call.put n v) (content true b Open ws p) ≡ Some e → Refused (call.put n v) (content on b mode ws p) e (content on b mode ws p)
-put_refused true b Open ws p n v e s h = barred h refl
-put_refused true b Due ws p n v e s h = absurd (let q = s.at in let z : ◌≡◌ {A = ℕ} 0 1 = cc in omega arith)
-put_refused true b Idle ws p n v e s h = absurd (let q = s.at in let z : ◌≡◌ {A = ℕ} 0 1 = cc in omega arith)
-put_refused false b mode ws p n v e s h = absurd (let q = s.lit in let z : ◌≡◌ {A = ℕ} 0 1 = cc in omega arith)
+pub put_refused : (on : Bool) (b : List (List ℕ)) (mode : Mode) (ws : List Write) (n : ℕ) (v : List ℕ) (e : Refusal) → Stands on mode (Open (puts_of mode)) → bar (call.put n v) (content true b (Open (puts_of mode)) ws) ≡ Some e → Refused (call.put n v) (content on b mode ws) e (content on b mode ws)
+put_refused true b (Open p) ws n v e s h = barred h refl
+put_refused true b Due ws n v e s h = absurd (let q = s.at in let z : ◌≡◌ {A = ℕ} 0 1 = cc in omega arith)
+put_refused true b Idle ws n v e s h = absurd (let q = s.at in let z : ◌≡◌ {A = ℕ} 0 1 = cc in omega arith)
+put_refused false b mode ws n v e s h = absurd (let q = s.lit in let z : ◌≡◌ {A = ℕ} 0 1 = cc in omega arith)
 
-pub opened_at : (on : Bool) (b : List (List ℕ)) (mode : Mode) (ws : List Write) (p : ℕ) → Stands on mode Open → Whole on b mode ws p → Grouped b ws p
-opened_at on b Open ws p s w = w.opened
-opened_at on b Due ws p s w = absurd (let q = s.at in let z : ◌≡◌ {A = ℕ} 0 1 = cc in omega arith)
-opened_at on b Idle ws p s w = absurd (let q = s.at in let z : ◌≡◌ {A = ℕ} 0 1 = cc in omega arith)
+pub opened_at : (on : Bool) (b : List (List ℕ)) (mode : Mode) (ws : List Write) → Stands on mode (Open (puts_of mode)) → Whole on b mode ws → Grouped b ws (puts_of mode)
+opened_at on b (Open p) ws s w = w.opened
+opened_at on b Due ws s w = absurd (let q = s.at in let z : ◌≡◌ {A = ℕ} 0 1 = cc in omega arith)
+opened_at on b Idle ws s w = absurd (let q = s.at in let z : ◌≡◌ {A = ℕ} 0 1 = cc in omega arith)

@@ -5,7 +5,8 @@ use Rattle.std.proofs.lemmas.List.{set-set, drop-set-lt, drop-set-add, set_comm}
 use Rattle.std.proofs.lemmas.Bool.{cases_eq, eq-eqb, ne_eqb, cond-true, cond-false, true≢false}
 use Rattle.disk.specs.Runs.{Write, stored, Inside}
 use Rattle.journal.specs.Record.{member}
-use Rattle.journal.specs.Layout.{names, framed, frame_writes, page_writes}
+use Rattle.journal.specs.Names.{names}
+use Rattle.journal.specs.Layout.{framed, frame_writes, page_writes}
 
 pub stored_append : (xs ys : List Write) (b : List (List ℕ)) → stored (xs ++ ys) b ≡ stored ys (stored xs b)
 stored_append [] ys b = refl

@@ -1,11 +1,13 @@
 // The journal as a store.
-ghost use Rattle.std.specs.Prelude.{◌≡◌, IfOk, MatchResult};
+ghost use Rattle.std.specs.Prelude.{◌≡◌, ◌<◌, ◌≤◌, MatchResult};
+ghost use Rattle.refusal.specs.declared.Reason.TheVariants.{OutOfRange};
+ghost use Rattle.refusal.specs.Refusals.{refusal};
 ghost use Rattle.disk.specs.Device.{powered_up};
 ghost use Rattle.store.specs.Meaning.{Outcome, next, phase_of};
 ghost use Rattle.store.specs.Meaning as call;
 ghost use Rattle.journal.specs.Layout.{cells_of};
 ghost use Rattle.journal.specs.Record.{Exactly};
-ghost use Rattle.journal.specs.Meaning.{meaning, wholly, group_of, committed, recovered, Lawfully, pended};
+ghost use Rattle.journal.specs.Meaning.{meaning, committed, recovered, Lawfully, pended, puts_of};
 ghost use Rattle.std.specs.Option.{option_map};
 ghost use Rattle.journal.specs.declared.state.Mode.TheVariants.{Due};
 ghost use Rattle.journal.specs.Stages.{journal_formed};
@@ -13,7 +15,7 @@ ghost use Rattle.journal.specs.Stages.{journal_formed};
 use crate::group::Group;
 use crate::restore::restore;
 use crate::state::{FIRST_PAGE, Journal, LAYER, LIMIT, Mode};
-use crate::writes::write_parts;
+use crate::writes::{COMMIT, write_parts};
 use disk::Disk;
 use refusal::{Phase, Reason, Refusal};
 use std::alloc::Global;
@@ -22,14 +24,12 @@ use store::{Needs, Shape, Store, Token, check_phase};
 impl<D: Disk> Journal<D> {
     // A journal over that disk, for which recovery is due. Where there is no memory for its group, the disk comes back.
     pub fn new(heap: Global, disk: D) -> Result<Journal<D>, D>
-        ensures made { MatchResult result (λ j. (j.disk ≡ disk) × (j.mode ≡ Due)) (λ d. d ≡ disk) }
-        ensures whole { IfOk result (λ j. wholly D.means j) }
+        ensures { MatchResult result (λ j. (j.disk ≡ disk) × (j.mode ≡ Due)) (λ d. d ≡ disk) }
     {
         match Group::new(heap) {
             Ok(group) => Ok(Journal {
                 disk,
                 mode: Mode::Due,
-                puts: 0,
                 group,
             }),
             Err(_) => Err(disk),
@@ -49,7 +49,6 @@ impl<D: Disk> Journal<D> {
         let Journal {
             disk,
             mode: _,
-            puts: _,
             group,
         } = self;
         drop(group);
@@ -62,38 +61,56 @@ impl<D: Disk> Journal<D> {
         self.disk.count() - FIRST_PAGE
     }
 
-    // What the open group has put to a page.
-    fn pended(&self, page: u16) -> Option<&[u8; 256]>
-        ensures { option_map (λ x. x.now) result ≡ pended self.now.mode page (group_of self.now) }
+    // The page of that number, if there is one.
+    fn page(&self, n: u32) -> Result<u16, Refusal>
+        ensures { MatchResult result (λ p. (p ≡ n) × (n < cells_of (D.means self.now.disk).blocks)) (λ e. (e ≡ refusal OutOfRange 1 n) × (cells_of (D.means self.now.disk).blocks ≤ n)) }
+    {
+        if n >= self.cells() {
+            return Err(Refusal::new(Reason::OutOfRange, LAYER, u64::from(n)));
+        }
+        Ok(n as u16)
+    }
+
+    // The puts of the open group so far.
+    fn puts(&self) -> u32
+        ensures { result ≡ puts_of self.now.mode }
     {
         match self.mode {
-            Mode::Open => self.group.get(page),
+            Mode::Open { puts } => puts,
+            Mode::Due | Mode::Idle => 0,
+        }
+    }
+
+    // What the open group has put to a page.
+    fn pended(&self, page: u16) -> Option<&[u8; 256]>
+        ensures { option_map (λ x. x.now) result ≡ pended self.now.mode page self.now.group }
+    {
+        match self.mode {
+            Mode::Open { .. } => self.group.get(page),
             Mode::Due | Mode::Idle => None,
         }
     }
 
     // The disk itself knows whether it is dark.
     fn standing(&self) -> Phase
-        ensures { result ≡ phase_of (meaning D.means self.now).stage }
+        ensures { result ≡ phase_of (meaning (D.means self.now.disk) self.now.mode self.now.group).stage }
     {
         match (self.disk.is_powered(), self.mode) {
             (false, _) => Phase::Dark,
             (true, Mode::Due) => Phase::Due,
             (true, Mode::Idle) => Phase::Idle,
-            (true, Mode::Open) => Phase::Open,
+            (true, Mode::Open { .. }) => Phase::Open,
         }
     }
 }
 
 impl<D: Disk> Store for Journal<D> {
-    ghost means = { meaning D.Disk.means };
+    ghost means = { λ j. meaning (D.Disk.means j.disk) j.mode j.group };
 
-    ghost whole = { wholly D.Disk.means };
-
-    ghost formed = { λ s w.
-        let d = D.Disk.means s.disk in
-        let f = D.Disk.formed s.disk in
-        journal_formed d.powered d.blocks s.mode (group_of s) s.puts f.least f.most f.even w };
+    ghost formed = { λ j.
+        let d = D.Disk.means j.disk in
+        let f = D.Disk.formed j.disk in
+        journal_formed d.powered d.blocks j.mode j.group f.least f.most f.even j.whole };
 
     fn shape(&self) -> Shape {
         Shape {
@@ -109,23 +126,19 @@ impl<D: Disk> Store for Journal<D> {
     }
 
     fn begin(&mut self) -> Result<Token, Refusal>
-        ensures outcome { wholly D.means self.old → Outcome call.begin (meaning D.means self.old) result (meaning D.means self.new) }
-        ensures stays { wholly D.means self.old → wholly D.means self.new }
+        ensures outcome { Outcome call.begin (meaning (D.means self.old.disk) self.old.mode self.old.group) result (meaning (D.means self.new.disk) self.new.mode self.new.group) }
         ensures disk { D.means self.new.disk ≡ D.means self.old.disk }
     {
         check_phase(self.standing(), Needs::Idle, LAYER)?;
         self.group.clear();
-        self.puts = 0;
-        self.mode = Mode::Open;
+        self.mode = Mode::Open { puts: 0 };
         Ok(Token::issue())
     }
 
     fn get(&self, n: u32, out: &mut [u8; 256]) -> Result<(), Refusal> {
         check_phase(self.standing(), Needs::Live, LAYER)?;
-        if n >= self.cells() {
-            return Err(Refusal::new(Reason::OutOfRange, LAYER, u64::from(n)));
-        }
-        match self.pended(n as u16) {
+        let page = self.page(n)?;
+        match self.pended(page) {
             Some(bytes) => {
                 *out = *bytes;
                 Ok(())
@@ -135,39 +148,35 @@ impl<D: Disk> Store for Journal<D> {
     }
 
     fn put(&mut self, n: u32, v: &[u8; 256]) -> Result<(), Refusal>
-        ensures outcome { wholly D.means self.old → Outcome (call.put n v.now) (meaning D.means self.old) result (meaning D.means self.new) }
-        ensures stays { wholly D.means self.old → wholly D.means self.new }
+        ensures outcome { Outcome (call.put n v.now) (meaning (D.means self.old.disk) self.old.mode self.old.group) result (meaning (D.means self.new.disk) self.new.mode self.new.group) }
         ensures disk { D.means self.new.disk ≡ D.means self.old.disk }
     {
         check_phase(self.standing(), Needs::Open, LAYER)?;
-        if n >= self.cells() {
-            return Err(Refusal::new(Reason::OutOfRange, LAYER, u64::from(n)));
-        }
-        if self.puts >= LIMIT {
+        let page = self.page(n)?;
+        let puts = self.puts();
+        if puts >= LIMIT {
             return Err(Refusal::new(Reason::LimitReached, LAYER, u64::from(LIMIT)));
         }
         // no more pages than puts, so the group has room
-        self.group.put(n as u16, v);
-        self.puts += 1;
+        self.group.put(page, v).unwrap();
+        self.mode = Mode::Open { puts: puts + 1 };
         Ok(())
     }
 
     fn commit(&mut self, token: Token) -> Result<(), Refusal>
-        ensures outcome { wholly D.means self.old → Outcome call.commit (meaning D.means self.old) result (meaning D.means self.new) }
-        ensures stays { wholly D.means self.old → wholly D.means self.new }
-        ensures disk { D.means self.new.disk ≡ committed (D.means self.old.disk).powered self.old.mode (group_of self.old) (D.means self.old.disk) }
-        ensures by_charge { wholly D.means self.old → Lawfully (D.means self.old.disk).powered self.old.mode (group_of self.old) (D.means self.old.disk) result (D.means self.new.disk) }
+        ensures outcome { Outcome call.commit (meaning (D.means self.old.disk) self.old.mode self.old.group) result (meaning (D.means self.new.disk) self.new.mode self.new.group) }
+        ensures disk { D.means self.new.disk ≡ committed (D.means self.old.disk).powered self.old.mode self.old.group (D.means self.old.disk) }
+        ensures by_charge { Lawfully (D.means self.old.disk).powered self.old.mode self.old.group (D.means self.old.disk) result (D.means self.new.disk) }
     {
         token.retire();
         check_phase(self.standing(), Needs::Open, LAYER)?;
-        write_parts(&mut self.disk, 0, &self.group.pages)?;
+        write_parts(&mut self.disk, &COMMIT, &self.group)?;
         self.mode = Mode::Idle;
         Ok(())
     }
 
     fn abort(&mut self, token: Token) -> Result<(), Refusal>
-        ensures outcome { wholly D.means self.old → Outcome call.abort (meaning D.means self.old) result (meaning D.means self.new) }
-        ensures stays { wholly D.means self.old → wholly D.means self.new }
+        ensures outcome { Outcome call.abort (meaning (D.means self.old.disk) self.old.mode self.old.group) result (meaning (D.means self.new.disk) self.new.mode self.new.group) }
         ensures disk { D.means self.new.disk ≡ D.means self.old.disk }
     {
         token.retire();
@@ -177,8 +186,7 @@ impl<D: Disk> Store for Journal<D> {
     }
 
     fn power(&mut self, charge: u32)
-        ensures outcome { wholly D.means self.old → meaning D.means self.new ≡ next (call.power charge) (meaning D.means self.old) }
-        ensures stays { wholly D.means self.old → wholly D.means self.new }
+        ensures outcome { meaning (D.means self.new.disk) self.new.mode self.new.group ≡ next (call.power charge) (meaning (D.means self.old.disk) self.old.mode self.old.group) }
         ensures disk { D.means self.new.disk ≡ powered_up charge (D.means self.old.disk) }
     {
         self.disk.power(charge);
@@ -186,8 +194,7 @@ impl<D: Disk> Store for Journal<D> {
     }
 
     fn recover(&mut self) -> Result<(), Refusal>
-        ensures outcome { wholly D.means self.old → Outcome call.recover (meaning D.means self.old) result (meaning D.means self.new) }
-        ensures stays { wholly D.means self.old → wholly D.means self.new }
+        ensures outcome { Outcome call.recover (meaning (D.means self.old.disk) self.old.mode self.old.group) result (meaning (D.means self.new.disk) self.new.mode self.new.group) }
         ensures disk { D.means self.new.disk ≡ recovered (D.means self.old.disk).powered self.old.mode (D.means self.old.disk) }
         ensures exact { Exactly (cells_of (D.means self.old.disk).blocks) }
     {

@@ -3,7 +3,6 @@
 
 pub mod calls;
 mod group;
-mod pages;
 mod record;
 mod restore;
 pub mod state;

@@ -1,23 +1,23 @@
 // Recovery: what the commit record names is copied from the frames once more.
 ghost use Rattle.std.specs.Prelude.{◌≡◌, true, Ok};
 ghost use Rattle.disk.specs.Runs.{ran};
-ghost use Rattle.journal.specs.Groups.{entries};
-ghost use Rattle.journal.specs.Layout.{names, framed, naming, recover_writes};
+ghost use Rattle.journal.specs.Names.{names};
+ghost use Rattle.journal.specs.Layout.{framed, naming, recover_writes};
 ghost use Rattle.journal.specs.Meaning.{recover_answer};
 
 use crate::group::Group;
 use crate::record::read_record;
-use crate::state::{FIRST_PAGE, LAYER};
-use crate::writes::write_parts;
+use crate::state::FIRST_PAGE;
+use crate::writes::{COMMIT, write_parts};
 use disk::Disk;
-use refusal::{Reason, Refusal};
+use refusal::Refusal;
 
 // Reads the frames into the group that names their pages.
 fn load_frames<D: Disk>(disk: &D, group: &mut Group) -> Result<(), Refusal>
-    ensures { (D.means disk.now).powered ≡ true → (result ≡ Ok tt) × (entries group.new.pages.items ≡ framed 0 (names (entries group.old.pages.items)) (D.means disk.now).blocks) }
+    ensures { (D.means disk.now).powered ≡ true → (result ≡ Ok tt) × (group.new ≡ framed 0 (names group.old) (D.means disk.now).blocks) }
 {
-    for turn in 0..group.pages.len() {
-        disk.read(1 + turn as u32, &mut group.pages[turn].bytes)?;
+    for (turn, p) in group.pages.iter_mut().enumerate() {
+        disk.read(1 + turn as u32, &mut p.bytes)?;
     }
     Ok(())
 }
@@ -29,10 +29,8 @@ pub fn restore<D: Disk>(disk: &mut D, group: &mut Group) -> Result<(), Refusal>
 {
     let mut block = [0; 256];
     disk.read(0, &mut block)?;
-    if !read_record(&block, disk.count() - FIRST_PAGE, group) {
-        return Err(Refusal::new(Reason::Damaged, LAYER, 0));
-    }
+    read_record(&block, disk.count() - FIRST_PAGE, group)?;
     load_frames(disk, group)?;
     // the last two parts of the commit that power cut
-    write_parts(disk, 2, &group.pages)
+    write_parts(disk, &COMMIT[2..], group)
 }

@@ -1,5 +1,9 @@
 // A journal: its disk, where it stands while there is power, and the open group.
+ghost use Rattle.journal.specs.Meaning.{Wholly};
+ghost use Rattle.journal.specs.Once.{Wholly-prop};
+
 use crate::group::Group;
+use disk::Disk;
 
 // A journal is the first layer above its disk.
 pub const LAYER: u32 = 1;
@@ -11,17 +15,18 @@ pub const LIMIT: u32 = 6;
 pub const FIRST_PAGE: u32 = 7;
 
 // Where a journal stands, power aside: the disk itself knows whether it is dark.
-#[derive(Clone, Copy)]
+#[derive(Clone, Copy, PartialEq, Eq, Debug)]
 pub enum Mode {
     Due,
     Idle,
-    Open,
+    // a group is open, with so many puts
+    Open { puts: u32 },
 }
 
 #[derive(Drop)]
-pub struct Journal<D> {
+pub struct Journal<D: Disk> {
     pub(crate) disk: D,
     pub(crate) mode: Mode,
-    pub(crate) puts: u32,
     pub(crate) group: Group,
+    ghost whole: { Wholly (D.means disk) mode group } by { Wholly-prop (D.means disk) mode group },
 }

@@ -1,25 +1,26 @@
 // The block writes of a commit and of a recovery, each up to the first that is refused.
-ghost use Rattle.std.specs.Prelude.{◌≡◌, ◌<◌, ◌≤◌, [], ◌∷◌, length};
+ghost use Rattle.std.specs.Prelude.{◌≡◌, ◌<◌, [], ◌∷◌};
 ghost use Rattle.disk.specs.Runs.{ran, ran_answer};
-ghost use Rattle.journal.specs.Groups.{entries};
-ghost use Rattle.journal.specs.Layout.{names, block_at, writes_to, part_at, part_writes, writes_from};
+ghost use Rattle.journal.specs.Names.{names};
+ghost use Rattle.journal.specs.Layout.{block_at, writes_to, part_writes, writes_of};
 ghost use Rattle.journal.specs.Record.{record_of};
 
-use crate::group::Pending;
-use crate::record::commit_record;
+use crate::group::Group;
+use crate::record::{EMPTY_RECORD, commit_record};
 use crate::state::FIRST_PAGE;
 use disk::Disk;
 use refusal::Refusal;
 
 // Where the pages of a group are written: into the frames, or into their own blocks.
-#[derive(Clone, Copy)]
+// A function in its place would be no plainer: contracts speak of the two by name.
+#[derive(Clone, Copy, PartialEq, Eq, Debug)]
 pub enum Side {
     Frames,
     Pages,
 }
 
 // The parts of a commit.
-#[derive(Clone, Copy)]
+#[derive(Clone, Copy, PartialEq, Eq, Debug)]
 pub enum Part {
     Frames,
     Record,
@@ -27,17 +28,8 @@ pub enum Part {
     EmptyRecord,
 }
 
-// The order of a commit's parts. A recovery makes the last two once more.
-fn ordered(step: usize) -> Part
-    ensures { result ≡ part_at step }
-{
-    match step {
-        0 => Part::Frames,
-        1 => Part::Record,
-        2 => Part::Pages,
-        _ => Part::EmptyRecord,
-    }
-}
+// A commit's parts in their order. A recovery makes the last two once more.
+pub const COMMIT: [Part; 4] = [Part::Frames, Part::Record, Part::Pages, Part::EmptyRecord];
 
 fn block(side: Side, turn: usize, page: u16) -> u32
     requires { turn < 6 }
@@ -49,50 +41,46 @@ fn block(side: Side, turn: usize, page: u16) -> u32
     }
 }
 
-fn write_pages<D: Disk>(disk: &mut D, side: Side, pages: &[Pending]) -> Result<(), Refusal>
-    requires { length pages.now ≤ 6 }
-    ensures after { D.means disk.new ≡ ran (writes_to side 0 (entries pages.now)) (D.means disk.old) }
-    ensures answer { result ≡ ran_answer (writes_to side 0 (entries pages.now)) (D.means disk.old) }
+fn write_pages<D: Disk>(disk: &mut D, side: Side, group: &Group) -> Result<(), Refusal>
+    ensures after { D.means disk.new ≡ ran (writes_to side 0 group.now) (D.means disk.old) }
+    ensures answer { result ≡ ran_answer (writes_to side 0 group.now) (D.means disk.old) }
 {
-    for (turn, p) in pages.iter().enumerate() {
+    for (turn, p) in group.pages.iter().enumerate() {
         disk.write(block(side, turn, p.page), &p.bytes)?;
     }
     Ok(())
 }
 
-fn write_record<D: Disk>(disk: &mut D, pages: &[Pending]) -> Result<(), Refusal>
-    requires { length pages.now ≤ 6 }
-    ensures after { D.means disk.new ≡ ran ((0, record_of (names (entries pages.now))) ∷ []) (D.means disk.old) }
-    ensures answer { result ≡ ran_answer ((0, record_of (names (entries pages.now))) ∷ []) (D.means disk.old) }
+fn write_record<D: Disk>(disk: &mut D, group: &Group) -> Result<(), Refusal>
+    ensures after { D.means disk.new ≡ ran ((0, record_of (names group.now)) ∷ []) (D.means disk.old) }
+    ensures answer { result ≡ ran_answer ((0, record_of (names group.now)) ∷ []) (D.means disk.old) }
 {
-    disk.write(0, &commit_record(pages))
+    disk.write(0, &commit_record(group))
 }
 
-fn write_part<D: Disk>(disk: &mut D, part: Part, pages: &[Pending]) -> Result<(), Refusal>
-    requires { length pages.now ≤ 6 }
-    ensures after { D.means disk.new ≡ ran (part_writes part (entries pages.now)) (D.means disk.old) }
-    ensures answer { result ≡ ran_answer (part_writes part (entries pages.now)) (D.means disk.old) }
+// A match on the part, not a table of functions: each takes the disk's type, and a table would have to be made for each.
+fn write_part<D: Disk>(disk: &mut D, part: Part, group: &Group) -> Result<(), Refusal>
+    ensures after { D.means disk.new ≡ ran (part_writes part group.now) (D.means disk.old) }
+    ensures answer { result ≡ ran_answer (part_writes part group.now) (D.means disk.old) }
 {
     match part {
-        Part::Frames => write_pages(disk, Side::Frames, pages),
-        Part::Record => write_record(disk, pages),
-        Part::Pages => write_pages(disk, Side::Pages, pages),
-        Part::EmptyRecord => write_record(disk, &[]),
+        Part::Frames => write_pages(disk, Side::Frames, group),
+        Part::Record => write_record(disk, group),
+        Part::Pages => write_pages(disk, Side::Pages, group),
+        Part::EmptyRecord => disk.write(0, &EMPTY_RECORD),
     }
 }
 
-// The parts of a commit of these pages, from that step on; nothing for no pages.
-pub fn write_parts<D: Disk>(disk: &mut D, first: usize, pages: &[Pending]) -> Result<(), Refusal>
-    requires few { length pages.now ≤ 6 }
-    requires step { first ≤ 4 }
-    ensures after { D.means disk.new ≡ ran (writes_from first (entries pages.now)) (D.means disk.old) }
-    ensures answer { result ≡ ran_answer (writes_from first (entries pages.now)) (D.means disk.old) }
+// These parts of a commit of the group; nothing for no pages.
+pub fn write_parts<D: Disk>(disk: &mut D, parts: &[Part], group: &Group) -> Result<(), Refusal>
+    ensures after { D.means disk.new ≡ ran (writes_of parts.now group.now) (D.means disk.old) }
+    ensures answer { result ≡ ran_answer (writes_of parts.now group.now) (D.means disk.old) }
 {
-    if pages.is_empty() {
+    if group.is_empty() {
         return Ok(());
     }
-    for step in first..4 {
-        write_part(disk, ordered(step), pages)?;
+    for part in parts {
+        write_part(disk, *part, group)?;
     }
     Ok(())
 }

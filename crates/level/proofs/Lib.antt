@@ -1,4 +1,3 @@
-pub mod Mirror
 pub mod Recorded
 pub mod Tabled
 pub mod Live

@@ -1,11 +1,14 @@
 -- Slots through their bytes, and a slot table read, changed and new. Assumes nothing.
-use Rattle.std.proofs.Common.{◌≡◌, ℕ, zero, suc, ◌+◌, ◌-◌, ◌<◌, ◌≤◌, min, Bool, true, false, ◌&&◌, leb, List, [], ◌∷◌, map, length, get_or, take, drop, set, replicate, is_some, Some, None, Option, sym, refl, ap, ◌∙◌, subst, arith}
+use Rattle.std.proofs.Common.{◌≡◌, ℕ, zero, suc, ◌+◌, ◌-◌, ◌<◌, ◌≤◌, min, true, false, ◌&&◌, leb, List, [], ◌∷◌, map, length, get_or, take, drop, set, replicate, is_some, unwrap_or, Some, None, Option, sym, refl, ap, ◌∙◌, subst, arith}
 use Rattle.std.proofs.lemmas.List.{length-set, length-take, map-set, drop-set-lt, get_or-map, get_or-take, take-replicate, drop-replicate}
+use Rattle.std.proofs.lemmas.List.Elements.{All-set, All-replicate}
+use Rattle.std.proofs.lemmas.List.Sums.{AllPass-from_list_all, list_all-from_AllPass}
 use Rattle.std.proofs.lemmas.Bool.{and_parts, and_from, leb-true, le-leb, both_ways}
 use Rattle.std.proofs.lemmas.Bool.Decides.{nat_tests}
+use Rattle.number.specs.Zeros.{zeros, zeros_replicate}
 use Rattle.level.specs.declared.slots.SlotState.{SlotState}
 use Rattle.level.specs.declared.slots.SlotState.TheVariants.{Committed, Undone, Running}
-use Rattle.level.specs.SlotTable.{slot_of, slot_byte, Within, slot_or, zeros, all_slots, table_ok, table_slots, Kept}
+use Rattle.level.specs.SlotTable.{slot_of, slot_byte, Within, all_slots, table_ok, table_slots, Kept}
 
 -- the slot that is written is read again
 pub slot_back : (m : ℕ) (s : SlotState) → m ≤ 64 → Within m s → slot_of m (slot_byte s) ≡ Some s
@@ -24,7 +27,7 @@ slot_byte_fits m Committed h w = refl
 slot_byte_fits m Undone h w = refl
 slot_byte_fits m (Running k) h w = omega arith
 
-some_is : (s : SlotState) (o : Option SlotState) → is_some o ≡ true → o ≡ Some (slot_or s o)
+some_is : (s : SlotState) (o : Option SlotState) → is_some o ≡ true → o ≡ Some (unwrap_or o s)
 some_is s None e = absurd (both_ways false refl e)
 some_is s (Some x) e = refl
 
@@ -37,17 +40,7 @@ take_set_in (suc t) (x ∷ xs) zero b = refl
 take_set_in (suc t) (x ∷ xs) (suc i) b = ap (λ l. x ∷ l) (take_set_in t xs i b)
 
 all_slots_set : (m : ℕ) (bs : List ℕ) (i b : ℕ) → is_some (slot_of m b) ≡ true → all_slots m bs ≡ true → all_slots m (set bs i b) ≡ true
-all_slots_set m [] i b some all = refl
-all_slots_set m (x ∷ xs) zero b some all =
-    and_from (is_some (slot_of m b)) (all_slots m xs) some (and_parts (is_some (slot_of m x)) (all_slots m xs) all).1
-all_slots_set m (x ∷ xs) (suc i) b some all =
-    let p = and_parts (is_some (slot_of m x)) (all_slots m xs) all in
-    and_from (is_some (slot_of m x)) (all_slots m (set xs i b)) p.0 (all_slots_set m xs i b some p.1)
-
-all_slots_at : (m : ℕ) (bs : List ℕ) (i : ℕ) → i < length bs → all_slots m bs ≡ true → is_some (slot_of m (get_or bs i 0)) ≡ true
-all_slots_at m [] i h all = absurd (omega arith)
-all_slots_at m (x ∷ xs) zero h all = (and_parts (is_some (slot_of m x)) (all_slots m xs) all).0
-all_slots_at m (x ∷ xs) (suc i) h all = all_slots_at m xs i (omega arith) (and_parts (is_some (slot_of m x)) (all_slots m xs) all).1
+all_slots_set m bs i b some all = list_all-from_AllPass _ _ (All-set (λ x. is_some (slot_of m x) ≡ true) bs i b some (AllPass-from_list_all _ bs all))
 
 -- the parts of a table
 pub record Parts (t m : ℕ) (bs : List ℕ) : Type 0 where
@@ -75,13 +68,13 @@ slot_set i s bs t m h few within ok =
     let b = slot_byte s in
     let p = table_parts t m bs ok in
     let back : slot_of m b ≡ Some s = slot_back m s few within in
-    let f : ℕ → SlotState = λ b. slot_or Committed (slot_of m b) in (
+    let f : ℕ → SlotState = λ b. unwrap_or (slot_of m b) Committed in (
       table_from t m (set bs i b) (record {
         room = omega (arith, length-set bs i b, p.room);
         slots = ap (all_slots m) (take_set_in t bs i b) ∙ all_slots_set m (take t bs) i b (some_true s (slot_of m b) back) p.slots;
         rest = ap zeros (drop-set-lt t bs i b h) ∙ p.rest;
       }),
-      ap (map f) (take_set_in t bs i b) ∙ map-set f (take t bs) i b ∙ ap (λ o. set (map f (take t bs)) i (slot_or Committed o)) back,
+      ap (map f) (take_set_in t bs i b) ∙ map-set f (take t bs) i b ∙ ap (λ o. set (map f (take t bs)) i (unwrap_or o Committed)) back,
     )
 
 -- the same of the byte that the code writes
@@ -95,20 +88,15 @@ pub slot_found : (n m i : ℕ) (bs : List ℕ) → i < n → table_ok n m bs ≡
 slot_found n m i bs h ok =
     let p = table_parts n m bs ok in
     let long : i < length (take n bs) = omega (arith, length-take n bs, p.room) in
-    let f : ℕ → SlotState = λ b. slot_or Committed (slot_of m b) in
+    let f : ℕ → SlotState = λ b. unwrap_or (slot_of m b) Committed in
     let at : get_or (take n bs) i 0 ≡ get_or bs i 0 = get_or-take n bs i 0 h in
-    ap (slot_of m) (sym at) ∙ some_is Committed (slot_of m (get_or (take n bs) i 0)) (all_slots_at m (take n bs) i long p.slots)
+    ap (slot_of m) (sym at) ∙ some_is Committed (slot_of m (get_or (take n bs) i 0)) (AllPass-from_list_all (λ b. is_some (slot_of m b)) (take n bs) p.slots i 0 long)
     ∙ ap Some (sym (get_or-map f (take n bs) i 0 Committed long))
 
-pub zeros_replicate : (n : ℕ) → zeros (replicate n 0) ≡ true
-zeros_replicate zero = refl
-zeros_replicate (suc n) = zeros_replicate n
-
 slots_replicate : (m n : ℕ) → all_slots m (replicate n 0) ≡ true
-slots_replicate m zero = refl
-slots_replicate m (suc n) = slots_replicate m n
+slots_replicate m n = list_all-from_AllPass _ _ (All-replicate (λ b. is_some (slot_of m b) ≡ true) n 0 refl)
 
-fresh_slots : (m n : ℕ) → map (λ b. slot_or Committed (slot_of m b)) (replicate n 0) ≡ replicate n Committed
+fresh_slots : (m n : ℕ) → map (λ b. unwrap_or (slot_of m b) Committed) (replicate n 0) ≡ replicate n Committed
 fresh_slots m zero = refl
 fresh_slots m (suc n) = ap (λ l. Committed ∷ l) (fresh_slots m n)
 
@@ -121,11 +109,5 @@ table_fresh n m h =
         slots = ap (all_slots m) front ∙ slots_replicate m n;
         rest = ap zeros (drop-replicate n 64 0) ∙ zeros_replicate (64 - n);
       }),
-      ap (map (λ b. slot_or Committed (slot_of m b))) front ∙ fresh_slots m n,
+      ap (map (λ b. unwrap_or (slot_of m b) Committed)) front ∙ fresh_slots m n,
     )
-
--- a table that is cut where its slots end
-pub table_cut : (t m : ℕ) (bs front rest : List ℕ) (r : Bool) → t ≤ length bs → front ≡ take t bs → rest ≡ drop t bs → r ≡ (all_slots m front && zeros rest) → r ≡ table_ok t m bs
-table_cut t m bs front rest r room f g e =
-    e ∙ ap (λ l. all_slots m l && zeros rest) f ∙ ap (λ l. all_slots m (take t bs) && zeros l) g
-    ∙ ap (λ x. x && (all_slots m (take t bs) && zeros (drop t bs))) (sym (le-leb t (length bs) room))

@@ -6,11 +6,18 @@ use Rattle.refusal.specs.declared.Refusal.{Refusal}
 use Rattle.refusal.specs.Refusals.{refusal, darkened}
 use Rattle.store.specs.Meaning.{Finding, sound, damaged, Stage, idle, grouped, dark, due}
 use Rattle.theory.specs.Theory.{Theory, Done}
-use Rattle.theory.specs.Slots.{Slot, committed, undone, running, slot_at, is_running, undos_of, fate_of}
+use Rattle.theory.specs.Slots.{Slot, committed, undone, running, slot_at, is_running, undos_of}
 use Rattle.theory.specs.Machine.{Limits, Reading, intact, unfit_reason}
 use Rattle.theory.specs.Machine as machine
+use Rattle.level.specs.declared.level.Fate.{Fate}
 use Rattle.level.specs.declared.slots.Ending.{Ending}
 use Rattle.level.specs.declared.slots.Ending.TheVariants as ending
+use Rattle.level.specs.Fates.{told}
+
+-- limits of so many slots with so many undo records each
+pub record Sized {Op State : Type 0} (lim : Limits Op State) (slots records : ℕ) : Type 0 where
+  pub slots_are : lim.slots ≡ slots
+  pub room_is : lim.room ≡ records
 
 -- where the store below stands
 pub data Below : Type 0 where
@@ -81,8 +88,8 @@ module _ {Op Answer : Type 0} (th : Theory Op Answer) (lim : Limits Op th.State)
   abbrev pub undoes : ℕ → Does Op th.State Unit
   undoes t = cond (nat_le lim.slots t) (by_level reason.OutOfRange t) (takes_back t (undos_of (slot_at slots t)))
 
-  abbrev pub tells : ℕ → Does Op th.State ℕ
-  tells t = cond (nat_le lim.slots t) (by_level reason.OutOfRange t) (answers (fate_of (slot_at slots t)))
+  abbrev pub tells : ℕ → Does Op th.State Fate
+  tells t = cond (nat_le lim.slots t) (by_level reason.OutOfRange t) (answers (told (slot_at slots t)))
 
 -- how a call ends that does this: where power goes, the level is as before or as after the call
 abbrev pub Ends : {Op State A : Type 0} → Does Op State A → State → List (Slot Op) → Standing Op State → Result A Refusal → Standing Op State → Type 0

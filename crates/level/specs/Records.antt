@@ -1,8 +1,8 @@
 -- Undo records: a code, and zeros to the end of its 64 bytes.
 use Rattle.std.specs.Prelude.{◌≡◌, ℕ, ◌+◌, ◌-◌, ◌*◌, cond, List, ◌++◌, length, replicate, Some, None, Option, ◌≢◌}
 use Rattle.number.specs.declared.Code.{Code}
+use Rattle.number.specs.Zeros.{zeros}
 use Rattle.number.specs.Codes.{code_bytes, reading_code, Small}
-use Rattle.level.specs.SlotTable.{zeros}
 
 abbrev pub record_bytes : Code → List ℕ
 record_bytes c = code_bytes c ++ replicate (64 - length (code_bytes c)) 0

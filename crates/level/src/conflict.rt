@@ -23,12 +23,6 @@ const CONFLICTS: [[bool; 7]; 7] = [
     [false, false, false, false, false, true, false],
 ];
 
-fn all_marks() -> [[bool; 7]; 7]
-    ensures { result ≡ marks }
-{
-    CONFLICTS
-}
-
 fn mark_at(row: usize, column: usize) -> bool
     requires { (row < 7) × (column < 7) }
     ensures { result ≡ mark row column }
@@ -42,18 +36,12 @@ fn kinds_conflict(a: Kind, b: Kind) -> bool
     mark_at(usize::from(u8::from(a)) - 1, usize::from(u8::from(b)) - 1)
 }
 
-fn locks_conflict(a: Lock, b: Lock) -> bool
-    ensures { result ≡ (a.number == b.number && clash (kind_number a.kind) (kind_number b.kind)) }
-{
-    a.number == b.number && kinds_conflict(a.kind, b.kind)
-}
-
 // Whether the second waits for the transaction that holds the first.
 pub fn conflicts(a: Lock, b: Lock) -> bool
     ensures value { result ≡ in_conflict (lock_of a) (lock_of b) }
     ensures symmetric { Symmetric }
 {
-    locks_conflict(a, b)
+    a.number == b.number && kinds_conflict(a.kind, b.kind)
 }
 
 // The table. It is its own mirror image, and marks the pairs that the rule lists, and no other.
@@ -62,5 +50,5 @@ pub fn conflict_table() -> [[bool; 7]; 7]
     ensures symmetric { TableSymmetric }
     ensures listed { AsListed }
 {
-    all_marks()
+    CONFLICTS
 }

@@ -2,7 +2,9 @@
 #![tactic(auto)]
 
 pub mod conflict;
+pub mod content;
 pub mod level;
 pub mod records;
+pub mod running;
 pub mod slots;
 pub mod turns;

@@ -1,18 +1,16 @@
 // Undo records: a code, and zeros to the end of its place.
 ghost use Rattle.std.specs.Prelude.{◌≡◌, if◌then◌else◌, Some, None};
+ghost use Rattle.number.specs.Zeros.{zeros};
 ghost use Rattle.number.specs.Codes.{Small};
-ghost use Rattle.level.specs.SlotTable.{zeros};
 ghost use Rattle.level.specs.Records.{record_bytes, reading_record, record_place, Exact};
 
-use super::slots::are_zero;
-use number::{Code, read_code, write_code};
-use place::Fill;
+use number::{Code, only_zeros, read_code};
 
 // The code of a record, where nothing but zeros follows it.
 fn alone(code: Code, rest: &[u8]) -> Option<Code>
     ensures { result ≡ (if zeros rest.now then Some code else None) }
 {
-    if are_zero(rest) { Some(code) } else { None }
+    only_zeros(rest).then_some(code)
 }
 
 // The code that the bytes of a place record; None where they are no record.
@@ -25,22 +23,9 @@ pub fn read_record(bytes: &[u8; 64]) -> Option<Code>
     alone(code, rest)
 }
 
-// A code that fills a place as an undo record.
-#[derive(Clone, Copy, PartialEq, Eq, Debug)]
-pub struct RecordPlace(pub Code);
-
-impl Fill for RecordPlace {
-    ghost bytes = { λ p. record_bytes p.0 };
-
-    fn fill(&self, out: &mut [u8]) {
-        out.fill(0);
-        let _ = write_code(self.0, out, 0);
-    }
-}
-
 // The place of record `j` of slot `t`, where each slot has `records` of them after the slot table.
 pub fn record_place(records: u8, t: u8, j: u8) -> u32
     ensures { result ≡ record_place records t j }
 {
-    1 + records as u32 * t as u32 + j as u32
+    1 + u32::from(records) * u32::from(t) + u32::from(j)
 }

@@ -1,6 +1,6 @@
 -- The laws of the layout: where a place lies in the cells, and what writing it changes.
 use Rattle.std.proofs.Common.{◌≡◌, ℕ, zero, suc, ◌+◌, ◌-◌, ◌*◌, ◌/◌, ◌%◌, ◌<◌, ◌≤◌, eqb, ◌⊎◌, List, [], ◌∷◌, ◌++◌, length, get_or, take, drop, set, replicate, sym, refl, ap, ◌∙◌, subst, inl, inr, ⊎_elim, mod-lt, mod-eq_of_lt, suc-mul, div-lt_iff_lt-mul, zero-mul, arith, take-add}
-use native.Mathlib.Nat.{add-div_right, add-mod_right, div-eq_of_lt}
+use Rattle.std.proofs.Math.Nat.{div-eq-sub-div, mod-eq-sub-mod, div-eq_of_lt}
 use Rattle.std.specs.List.{flat_map}
 use Rattle.std.proofs.lemmas.Bool.{cases_lt, cond_both}
 use Rattle.std.proofs.lemmas.List.{length-append, length-drop, length-take-le, drop-drop, take_at, drop_at, drop-append-le, take-append-le, append_assoc, get_or_append_left, get_or-append_right, set-append_left, set-append_right}
@@ -30,13 +30,7 @@ getD_parts (suc k) v (suc i) h =
 
 -- a place past the first cell is one of the others
 step_div : (k p : ℕ) → 0 < k → k ≤ p → p / k ≡ suc ((p - k) / k)
-step_div k p h l =
-    let e : p ≡ p - k + k = omega arith in
-    let s : (p - k) / k + 1 ≡ suc ((p - k) / k) = omega arith in
-    ap (λ n. n / k) e ∙ add-div_right (p - k) h ∙ s
-
-step_mod : (k p : ℕ) → k ≤ p → p % k ≡ (p - k) % k
-step_mod k p l = let e : p ≡ p - k + k = omega arith in ap (λ n. n % k) e ∙ add-mod_right (p - k) k
+step_div k p h l = let e = div-eq-sub-div h l in omega arith
 
 -- the place as its cell has it
 abbrev seen : ℕ → Cells → ℕ → List ℕ
@@ -44,13 +38,15 @@ seen k c p = take 64 (drop (64 * (p % k)) (get_or c (p / k) []))
 
 seen_near : (k : ℕ) (v : List ℕ) (c : Cells) (p : ℕ) → p < k → seen k (v ∷ c) p ≡ take 64 (drop (64 * p) v)
 seen_near k v c p l =
-    ap (λ n. take 64 (drop (64 * (p % k)) (get_or (v ∷ c) n []))) (div-eq_of_lt l)
-    ∙ ap (λ n. take 64 (drop (64 * n) v)) (mod-eq_of_lt l)
+    let d = div-eq_of_lt l in
+    let e = mod-eq_of_lt l in
+    cc
 
 seen_far : (k : ℕ) (v : List ℕ) (c : Cells) (p : ℕ) → 0 < k → k ≤ p → seen k (v ∷ c) p ≡ seen k c (p - k)
 seen_far k v c p z l =
-    ap (λ n. take 64 (drop (64 * (p % k)) (get_or (v ∷ c) n []))) (step_div k p z l)
-    ∙ ap (λ n. take 64 (drop (64 * n) (get_or c ((p - k) / k) []))) (step_mod k p l)
+    let d = step_div k p z l in
+    let e = mod-eq-sub-mod l in
+    cc
 
 fewer : (k n p : ℕ) → k ≤ p → p < suc n * k → p - k < n * k
 fewer k n p l h = let e = suc-mul n k in omega arith
@@ -60,7 +56,7 @@ getD_spread k [] p z h = let e = zero-mul k in absurd (omega arith)
 getD_spread k (v ∷ c) p z h =
     let n = length_parts k v in
     ⊎_elim
-    (λ l. get_or_append_left (parts k v) (flat_map (parts k) c) [] p (subst (λ n. p < n) (sym n) l) ∙ getD_parts k v p l ∙ sym (seen_near k v c p l))
+    (λ l. get_or_append_left (parts k v) (flat_map (parts k) c) [] p (omega arith) ∙ getD_parts k v p l ∙ sym (seen_near k v c p l))
     (λ l. get_or-append_right (parts k v) (flat_map (parts k) c) k p [] n l ∙ getD_spread k c (p - k) z (fewer k (length c) p l h) ∙ sym (seen_far k v c p z l))
     (cases_lt p k)
 
@@ -68,20 +64,21 @@ getD_spread k (v ∷ c) p z h =
 pub set_parts : (k : ℕ) (v u : List ℕ) (i : ℕ) → i < k → length v ≡ 64 * k → length u ≡ 64 → parts k (replaced (64 * i) u v) ≡ set (parts k v) i u
 set_parts zero v u i h n m = absurd (omega arith)
 set_parts (suc k) v u zero h n m =
-    ap (λ x. x ∷ parts k (drop 64 (u ++ drop 64 v))) (take_at u (drop 64 v) 64 m)
-    ∙ ap (λ x. u ∷ parts k x) (drop_at u (drop 64 v) 64 m)
+    let a = take_at u (drop 64 v) 64 m in
+    let b = drop_at u (drop 64 v) 64 m in
+    cc
 set_parts (suc k) v u (suc i) h n m =
     let a : 64 * suc i ≡ 64 + 64 * i = omega arith in
     let first : take (64 * suc i) v ≡ take 64 v ++ take (64 * i) (drop 64 v) = ap (λ x. take x v) a ∙ take-add 64 (64 * i) v in
     let rest : drop (64 * suc i) v ≡ drop (64 * i) (drop 64 v) = ap (λ x. drop x v) a ∙ sym (drop-drop (64 * i) 64 v) in
-    let whole : replaced (64 * suc i) u v ≡ take 64 v ++ replaced (64 * i) u (drop 64 v) =
-    ap (λ x. x ++ (u ++ drop 64 (drop (64 * suc i) v))) first ∙ append_assoc (take 64 v) _ _ ∙ ap (λ x. take 64 v ++ (take (64 * i) (drop 64 v) ++ (u ++ drop 64 x))) rest in
+    let joined = append_assoc (take 64 v) (take (64 * i) (drop 64 v)) (u ++ drop 64 (drop (64 * i) (drop 64 v))) in
+    let whole : replaced (64 * suc i) u v ≡ take 64 v ++ replaced (64 * i) u (drop 64 v) = cc in
     let left : length v - 64 ≡ 64 * k = omega arith in
     let l : length (take 64 v) ≡ 64 = length-take-le 64 v (omega arith) in
-    ap (parts (suc k)) whole
-    ∙ ap (λ x. x ∷ parts k (drop 64 (take 64 v ++ replaced (64 * i) u (drop 64 v)))) (take_at (take 64 v) _ 64 l)
-    ∙ ap (λ x. take 64 v ∷ parts k x) (drop_at (take 64 v) _ 64 l)
-    ∙ ap (λ x. take 64 v ∷ x) (set_parts k (drop 64 v) u i (omega arith) (length-drop 64 v ∙ left) m)
+    let head = take_at (take 64 v) (replaced (64 * i) u (drop 64 v)) 64 l in
+    let tail = drop_at (take 64 v) (replaced (64 * i) u (drop 64 v)) 64 l in
+    let others = set_parts k (drop 64 v) u i (omega arith) (length-drop 64 v ∙ left) m in
+    cc
 
 -- the cell of a place with the place replaced, among its cells
 abbrev put_in : ℕ → Cells → ℕ → List ℕ → Cells
@@ -89,13 +86,15 @@ put_in k c p u = set c (p / k) (replaced (64 * (p % k)) u (get_or c (p / k) []))
 
 put_near : (k : ℕ) (v : List ℕ) (c : Cells) (p : ℕ) (u : List ℕ) → p < k → put_in k (v ∷ c) p u ≡ replaced (64 * p) u v ∷ c
 put_near k v c p u l =
-    ap (λ n. set (v ∷ c) n (replaced (64 * (p % k)) u (get_or (v ∷ c) n []))) (div-eq_of_lt l)
-    ∙ ap (λ n. replaced (64 * n) u v ∷ c) (mod-eq_of_lt l)
+    let d = div-eq_of_lt l in
+    let e = mod-eq_of_lt l in
+    cc
 
 put_far : (k : ℕ) (v : List ℕ) (c : Cells) (p : ℕ) (u : List ℕ) → 0 < k → k ≤ p → put_in k (v ∷ c) p u ≡ v ∷ put_in k c (p - k) u
 put_far k v c p u z l =
-    ap (λ n. set (v ∷ c) n (replaced (64 * (p % k)) u (get_or (v ∷ c) n []))) (step_div k p z l)
-    ∙ ap (λ n. v ∷ set c ((p - k) / k) (replaced (64 * n) u (get_or c ((p - k) / k) []))) (step_mod k p l)
+    let d = step_div k p z l in
+    let e = mod-eq-sub-mod l in
+    cc
 
 pub set_spread : (k : ℕ) (c : Cells) (p : ℕ) (u : List ℕ) → 0 < k → p < length c * k → Each (64 * k) c → length u ≡ 64 → flat_map (parts k) (put_in k c p u) ≡ set (flat_map (parts k) c) p u
 set_spread k [] p u z h e n = let x = zero-mul k in absurd (omega arith)
@@ -103,13 +102,15 @@ set_spread k (v ∷ c) p u z h e n =
     let m = length_parts k v in
     ⊎_elim
     (λ l.
-    ap (flat_map (parts k)) (put_near k v c p u l)
-    ∙ ap (λ x. x ++ flat_map (parts k) c) (set_parts k v u p l e.0 n)
-    ∙ sym (set-append_left (parts k v) (flat_map (parts k) c) p u (subst (λ n. p < n) (sym m) l)))
+    let a = put_near k v c p u l in
+    let b = set_parts k v u p l e.0 n in
+    let d = set-append_left (parts k v) (flat_map (parts k) c) p u (omega arith) in
+    cc)
     (λ l.
-    ap (flat_map (parts k)) (put_far k v c p u z l)
-    ∙ ap (λ x. parts k v ++ x) (set_spread k c (p - k) u z (fewer k (length c) p l h) e.1 n)
-    ∙ sym (set-append_right (parts k v) (flat_map (parts k) c) k p u m l))
+    let a = put_far k v c p u z l in
+    let b = set_spread k c (p - k) u z (fewer k (length c) p l h) e.1 n in
+    let d = set-append_right (parts k v) (flat_map (parts k) c) k p u m l in
+    cc)
     (cases_lt p k)
 
 each_append : (z : ℕ) (xs ys : List (List ℕ)) → Each z xs → Each z ys → Each z (xs ++ ys)
@@ -175,26 +176,19 @@ start_within z p s = let a = mod-lt p (fold_some z) in let b = fold_size z s in 
 pub read_padded : (v : List ℕ) (a : ℕ) → a + 64 ≤ length v → take 64 (drop a (padded v)) ≡ take 64 (drop a v)
 read_padded v a h =
     let t : List ℕ = replicate (256 - length v) 0 in
-    let n : 64 ≤ length (drop a v) = subst (λ n. 64 ≤ n) (sym (length-drop a v)) (omega arith) in
-    ap (take 64) (drop-append-le a v t (omega arith)) ∙ take-append-le 64 (drop a v) t n
+    ap (take 64) (drop-append-le a v t (omega arith)) ∙ take-append-le 64 (drop a v) t (omega (arith, length-drop a v, h))
 
-pub length_replaced : (v u : List ℕ) (a : ℕ) → length u ≡ 64 → a + 64 ≤ length v → length (replaced a u v) ≡ length v
-length_replaced v u a n h =
-    let x = length-append (take a v) (u ++ drop 64 (drop a v)) in
-    let y = length-append u (drop 64 (drop a v)) in
-    let p = length-take-le a v (omega arith) in
-    let q = length-drop a v in
-    let r = length-drop 64 (drop a v) in
-    omega arith
+pub length_replaced : (v u : List ℕ) (a : ℕ) → a ≤ length v → length (replaced a u v) ≡ a + (length u + (length v - a - 64))
+length_replaced v u a h = omega (arith, length-append (take a v) (u ++ drop 64 (drop a v)), length-append u (drop 64 (drop a v)), length-take-le a v h, length-drop a v, length-drop 64 (drop a v))
 
 -- a place written in the buffer is written in the cell
 pub put_padded : (v u : List ℕ) (a z : ℕ) → length v ≡ z → length u ≡ 64 → a + 64 ≤ z → take z (replaced a u (padded v)) ≡ replaced a u v
 put_padded v u a z m n h =
     let t : List ℕ = replicate (256 - length v) 0 in
-    let l : 64 ≤ length (drop a v) = subst (λ n. 64 ≤ n) (sym (length-drop a v)) (omega arith) in
-    let one : replaced a u (padded v) ≡ replaced a u v ++ t =
-    ap (λ x. x ++ (u ++ drop 64 (drop a (v ++ t)))) (take-append-le a v t (omega arith))
-    ∙ ap (λ x. take a v ++ (u ++ x)) (ap (drop 64) (drop-append-le a v t (omega arith)) ∙ drop-append-le 64 (drop a v) t l)
-    ∙ ap (λ x. take a v ++ x) (sym (append_assoc u (drop 64 (drop a v)) t))
-    ∙ sym (append_assoc (take a v) (u ++ drop 64 (drop a v)) t) in
-    ap (take z) one ∙ take_at (replaced a u v) t z (length_replaced v u a n (omega arith) ∙ m)
+    let first = take-append-le a v t (omega arith) in
+    let rest = drop-append-le a v t (omega arith) in
+    let past = drop-append-le 64 (drop a v) t (omega (arith, length-drop a v, m, h)) in
+    let inner = append_assoc u (drop 64 (drop a v)) t in
+    let outer = append_assoc (take a v) (u ++ drop 64 (drop a v)) t in
+    let one : replaced a u (padded v) ≡ replaced a u v ++ t = cc in
+    ap (take z) one ∙ take_at (replaced a u v) t z (omega (arith, length_replaced v u a (omega arith), m, n, h))

@@ -1,26 +1,21 @@
--- A group that is open stays open through granted puts. Assumes nothing.
-use Rattle.std.proofs.Common.{◌≡◌, ℕ, List, refl, ap, ◌∙◌, arith}
+-- A group that is open stays open through granted puts.
+use Rattle.std.proofs.Common.{◌≡◌, ℕ, List, refl, ap}
 use Rattle.refusal.specs.declared.Phase.TheVariants.{Open}
-use Rattle.store.specs.Meaning.{Cells, Content, Stage, idle, grouped, dark, due, phase_of, next, Granted}
+use Rattle.store.specs.Meaning.{Cells, Content, Stage, idle, grouped, dark, due, phase_of, Granted}
 use Rattle.store.specs.Meaning as call
+use Rattle.store.proofs.Clients.{begun, put_on}
 
-pub begun_open : (m after : Content) → Granted call.begin m after → phase_of after.stage ≡ Open
-unfolding next
-begun_open m after o = ap (λ (c : Content). phase_of c.stage) o.leaves
-
-stage_put : (n : ℕ) (v : List ℕ) (m : Content) (s : Stage) → m.stage ≡ s → phase_of (call.put_into n v m).stage ≡ phase_of m.stage
-stage_put n v m idle e = rw e refl
-stage_put n v m (grouped w p) e = rw e refl
-stage_put n v m (dark f) e = rw e refl
-stage_put n v m (due f) e = rw e refl
-
-pub put_open : (n : ℕ) (v : List ℕ) (m after : Content) → phase_of m.stage ≡ Open → Granted (call.put n v) m after → phase_of after.stage ≡ Open
-unfolding next
-put_open n v m after h o = ap (λ (c : Content). phase_of c.stage) o.leaves ∙ stage_put n v m m.stage refl ∙ h
+pub begun_open : {m after : Content} → Granted call.begin m after → phase_of after.stage ≡ Open
+begun_open o = ap phase_of (begun o).stage
 
 -- an open group has its working content and its puts
 pub open_group : (s : Stage) → phase_of s ≡ Open → (w : Cells) × (p : ℕ) × (s ≡ grouped w p)
-open_group idle h = let z : ◌≡◌ {A = ℕ} 0 1 = cc in absurd (omega arith)
+open_group idle h = absurd cc
 open_group (grouped w p) h = (w, p, refl)
-open_group (dark f) h = let z : ◌≡◌ {A = ℕ} 0 1 = cc in absurd (omega arith)
-open_group (due f) h = let z : ◌≡◌ {A = ℕ} 0 1 = cc in absurd (omega arith)
+open_group (dark f) h = absurd cc
+open_group (due f) h = absurd cc
+
+pub put_open : {m after : Content} {n : ℕ} {v : List ℕ} → phase_of m.stage ≡ Open → Granted (call.put n v) m after → phase_of after.stage ≡ Open
+put_open {m} h o =
+    let g = open_group m.stage h in
+    ap phase_of (put_on {m = m} {w = g.0} {p = g.1} (record { stage = g.2; shape = refl; durable = refl }) o).stage

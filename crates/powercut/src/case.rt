@@ -1,8 +1,9 @@
 // One commit that power cuts, on a new journal over a new disk.
-ghost use Rattle.std.specs.Prelude.{◌≡◌, ◌≤◌, IfOk, OnOk};
+ghost use Rattle.std.specs.Prelude.{◌≡◌, ◌≤◌, true, replicate, None, OnOk};
+ghost use Rattle.disk.specs.Layout.{device};
+ghost use Rattle.disk.specs.Sizes.{Made};
 ghost use Rattle.refusal.specs.declared.Phase.TheVariants.{Open};
 ghost use Rattle.store.specs.Meaning.{phase_of, idle};
-ghost use Rattle.journal.specs.Meaning.{wholly};
 
 use crate::content::{Stands, Version, look, open_group, write_first, write_group};
 use disk::Disk;
@@ -24,40 +25,43 @@ const ENOUGH: u32 = 1000;
 // The pages that commits change, in the order of their puts.
 const PAGES: [u32; 6] = [5, 0, 16, 3, 12, 7];
 
-#[derive(Clone, Copy)]
-pub enum Kind {
-    Plain,
-    Banks,
+// A disk that the program tries: its name in the lines, and a new one, all zero, with power and no write left.
+pub trait Trial: Disk + Drop {
+    const NAME: &'static str;
+
+    fn fresh(heap: Global) -> Result<Self, NewError>
+        ensures { Made None (λ d. Self.means d ≡ device (replicate 24 (replicate 256 0)) 0 true) result };
 }
 
-impl fmt::Display for Kind {
-    fn fmt<W: fmt::Write>(&self, f: &mut fmt::Formatter<W>) -> fmt::Result {
-        let word = match self {
-            Kind::Plain => "plain",
-            Kind::Banks => "banks",
-        };
-        write!(f, "{word}")
+impl Trial for PlainDisk {
+    const NAME: &'static str = "plain";
+
+    fn fresh(heap: Global) -> Result<PlainDisk, NewError> {
+        PlainDisk::new(heap, BLOCKS)
     }
 }
 
-// A commit of so many pages on that disk, with that many writes left before power goes.
-#[derive(Clone, Copy)]
+impl Trial for BankedDisk {
+    const NAME: &'static str = "banks";
+
+    fn fresh(heap: Global) -> Result<BankedDisk, NewError> {
+        BankedDisk::new(heap, BLOCKS)
+    }
+}
+
+// A commit of so many pages, with that many writes left before power goes.
+#[derive(Clone, Copy, PartialEq, Eq, Debug)]
 pub struct Case {
-    pub kind: Kind,
     pub pages: u32,
     pub charge: u32,
     ghost few: { pages ≤ 6 },
 }
 
 impl Case {
-    pub fn new(kind: Kind, pages: u32, charge: u32) -> Case
+    pub fn new(pages: u32, charge: u32) -> Case
         requires { pages ≤ 6 }
     {
-        Case {
-            kind,
-            pages,
-            charge,
-        }
+        Case { pages, charge }
     }
 
     fn changes(&self) -> &'static [u32] {
@@ -67,15 +71,12 @@ impl Case {
 
 impl fmt::Display for Case {
     fn fmt<W: fmt::Write>(&self, f: &mut fmt::Formatter<W>) -> fmt::Result {
-        let kind = self.kind;
-        let pages = self.pages;
-        let charge = self.charge;
-        write!(f, "{kind} {pages} {charge}")
+        write!(f, "{} {}", self.pages, self.charge)
     }
 }
 
 // What the commit answered, and what stands once power is back.
-#[derive(Clone, Copy)]
+#[derive(Clone, Copy, PartialEq, Eq, Debug)]
 pub struct End {
     pub answer: Result<(), Refusal>,
     pub stands: Stands,
@@ -83,16 +84,15 @@ pub struct End {
 
 impl fmt::Display for End {
     fn fmt<W: fmt::Write>(&self, f: &mut fmt::Formatter<W>) -> fmt::Result {
-        let stands = self.stands;
         match self.answer {
-            Ok(()) => write!(f, "ok {stands}"),
-            Err(refusal) => write!(f, "no {refusal} {stands}"),
+            Ok(()) => write!(f, "ok {}", self.stands),
+            Err(refusal) => write!(f, "no {refusal} {}", self.stands),
         }
     }
 }
 
-// Whether power cut the recovery, and what stands after the one that follows.
-#[derive(Clone, Copy)]
+// Whether power cut the recovery, and what stands at the end. Neither says the other, so an enum for `cut` would only rename yes and no.
+#[derive(Clone, Copy, PartialEq, Eq, Debug)]
 pub struct Recovery {
     pub cut: bool,
     pub stands: Stands,
@@ -127,19 +127,13 @@ impl From<io::Error> for Fault {
     }
 }
 
-fn journal_on<D: Disk + Drop>(heap: Global, disk: D) -> Result<Journal<D>, Fault>
-    ensures { IfOk result (λ j. wholly D.means j) }
-{
-    match Journal::new(heap, disk) {
-        Ok(journal) => Ok(journal),
-        Err(_) => Err(Fault::NoMemory),
-    }
+fn new_journal<D: Trial>(heap: Global) -> Result<Journal<D>, Fault> {
+    Journal::new(heap, D::fresh(heap)?).map_err(|_| Fault::NoMemory)
 }
 
 // Every page has its first version, those of the case the old one, and the new one is put: its commit is to come, with the charge of the case.
 fn prepare<S: Store>(store: &mut S, case: Case) -> Result<Token, Refusal>
-    ensures stays { S.whole store.old → S.whole store.new }
-    ensures opened { S.whole store.old → OnOk result (phase_of (S.means store.new).stage ≡ Open) }
+    ensures { OnOk result (phase_of (S.means store.new).stage ≡ Open) }
 {
     revive(store, ENOUGH)?;
     write_first(store)?;
@@ -149,8 +143,7 @@ fn prepare<S: Store>(store: &mut S, case: Case) -> Result<Token, Refusal>
 }
 
 fn run_commit<S: Store>(store: &mut S, case: Case) -> Result<End, Fault>
-    ensures stays { S.whole store.old → S.whole store.new }
-    ensures ended { S.whole store.old → OnOk result ((S.means store.new).stage ≡ idle) }
+    ensures { OnOk result ((S.means store.new).stage ≡ idle) }
 {
     let token = prepare(store, case)?;
     let answer = survive(store, token, ENOUGH)?;
@@ -160,17 +153,11 @@ fn run_commit<S: Store>(store: &mut S, case: Case) -> Result<End, Fault>
 
 // Commits and recovers with that charge and, where power cuts the recovery, recovers again with enough. Answers whether it was cut.
 fn recover_twice<S: Store>(store: &mut S, token: Token, charge: u32) -> Result<bool, Refusal>
-    ensures stays { S.whole store.old → S.whole store.new }
-    ensures ended { S.whole store.old → phase_of (S.means store.old).stage ≡ Open → OnOk result ((S.means store.new).stage ≡ idle) }
+    ensures { phase_of (S.means store.old).stage ≡ Open → OnOk result ((S.means store.new).stage ≡ idle) }
 {
     match survive(store, token, charge) {
         Ok(_) => Ok(false),
-        Err(
-            Refusal {
-                reason: Reason::Dark,
-                ..
-            },
-        ) => {
+        Err(refusal) if refusal.reason == Reason::Dark => {
             revive(store, ENOUGH)?;
             Ok(true)
         }
@@ -179,8 +166,7 @@ fn recover_twice<S: Store>(store: &mut S, token: Token, charge: u32) -> Result<b
 }
 
 fn run_recovery<S: Store>(store: &mut S, case: Case, charge: u32) -> Result<Recovery, Fault>
-    ensures stays { S.whole store.old → S.whole store.new }
-    ensures ended { S.whole store.old → OnOk result ((S.means store.new).stage ≡ idle) }
+    ensures { OnOk result ((S.means store.new).stage ≡ idle) }
 {
     let token = prepare(store, case)?;
     let cut = recover_twice(store, token, charge)?;
@@ -189,25 +175,11 @@ fn run_recovery<S: Store>(store: &mut S, case: Case, charge: u32) -> Result<Reco
 }
 
 // The commit of the case, and then a recovery with enough charge.
-pub fn cut_commit(heap: Global, case: Case) -> Result<End, Fault> {
-    match case.kind {
-        Kind::Plain => run_commit(&mut journal_on(heap, PlainDisk::new(heap, BLOCKS)?)?, case),
-        Kind::Banks => run_commit(&mut journal_on(heap, BankedDisk::new(heap, BLOCKS)?)?, case),
-    }
+pub fn cut_commit<D: Trial>(heap: Global, case: Case) -> Result<End, Fault> {
+    run_commit(&mut new_journal::<D>(heap)?, case)
 }
 
 // The commit of the case, then a recovery with that charge and, where power cuts it, one with enough.
-pub fn cut_recovery(heap: Global, case: Case, charge: u32) -> Result<Recovery, Fault> {
-    match case.kind {
-        Kind::Plain => run_recovery(
-            &mut journal_on(heap, PlainDisk::new(heap, BLOCKS)?)?,
-            case,
-            charge,
-        ),
-        Kind::Banks => run_recovery(
-            &mut journal_on(heap, BankedDisk::new(heap, BLOCKS)?)?,
-            case,
-            charge,
-        ),
-    }
+pub fn cut_recovery<D: Trial>(heap: Global, case: Case, charge: u32) -> Result<Recovery, Fault> {
+    run_recovery(&mut new_journal::<D>(heap)?, case, charge)
 }

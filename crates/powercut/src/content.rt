@@ -8,7 +8,7 @@ use std::fmt;
 use store::{Store, Token};
 
 // What a page has been given: at first, before the commit that is cut, and by it.
-#[derive(Clone, Copy)]
+#[derive(Clone, Copy, PartialEq, Eq, Debug)]
 pub enum Version {
     First,
     Old,
@@ -16,7 +16,7 @@ pub enum Version {
 }
 
 // What stands of a commit: nothing of it, all of it, or anything else.
-#[derive(Clone, Copy, PartialEq, Eq)]
+#[derive(Clone, Copy, PartialEq, Eq, Debug)]
 pub enum Stands {
     Old,
     New,
@@ -47,8 +47,7 @@ fn bytes(version: Version, page: u32) -> [u8; 256] {
 }
 
 fn put_all<S: Store>(store: &mut S, pages: &[u32], version: Version) -> Result<(), Refusal>
-    ensures stays { S.whole store.old → S.whole store.new }
-    ensures opened { S.whole store.old → phase_of (S.means store.old).stage ≡ Open → OnOk result (phase_of (S.means store.new).stage ≡ Open) }
+    ensures { phase_of (S.means store.old).stage ≡ Open → OnOk result (phase_of (S.means store.new).stage ≡ Open) }
 {
     for page in pages {
         store.put(*page, &bytes(version, *page))?;
@@ -62,8 +61,7 @@ pub fn open_group<S: Store>(
     pages: &[u32],
     version: Version,
 ) -> Result<Token, Refusal>
-    ensures stays { S.whole store.old → S.whole store.new }
-    ensures opened { S.whole store.old → OnOk result (phase_of (S.means store.new).stage ≡ Open) }
+    ensures { OnOk result (phase_of (S.means store.new).stage ≡ Open) }
 {
     let token = store.begin()?;
     match put_all(store, pages, version) {
@@ -76,17 +74,17 @@ pub fn open_group<S: Store>(
 }
 
 // Writes that version of each page, by one group.
-pub fn write_group<S: Store>(store: &mut S, pages: &[u32], version: Version) -> Result<(), Refusal>
-    ensures stays { S.whole store.old → S.whole store.new }
-{
+pub fn write_group<S: Store>(
+    store: &mut S,
+    pages: &[u32],
+    version: Version,
+) -> Result<(), Refusal> {
     let token = open_group(store, pages, version)?;
     store.commit(token)
 }
 
 // Writes the first version of every page, by a group for each.
-pub fn write_first<S: Store>(store: &mut S) -> Result<(), Refusal>
-    ensures stays { S.whole store.old → S.whole store.new }
-{
+pub fn write_first<S: Store>(store: &mut S) -> Result<(), Refusal> {
     for page in 0..store.shape().cells {
         write_group(store, &[page], Version::First)?;
     }

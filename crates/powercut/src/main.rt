@@ -3,7 +3,9 @@
 
 ghost use Rattle.std.specs.Prelude.{◌≤◌};
 
-use case::{Case, Fault, Kind, cut_commit, cut_recovery};
+use case::{Case, Fault, Trial, cut_commit, cut_recovery};
+use disk::banked::BankedDisk;
+use disk::plain::PlainDisk;
 use tally::Tally;
 
 mod case;
@@ -11,38 +13,38 @@ mod content;
 mod tally;
 
 // One case: a line for its commit, and then its recovery is cut at each write.
-fn show(rt: &HostRuntime, case: Case, tally: &mut Tally) -> Result<(), Fault> {
-    let end = cut_commit(rt.alloc(), case)?;
+fn show<D: Trial>(rt: &HostRuntime, case: Case, tally: &mut Tally) -> Result<(), Fault> {
+    let end = cut_commit::<D>(rt.alloc(), case)?;
     tally.count(end);
-    println!(rt; "{case} {end}")?;
-    for charge in 0..case.pages + 1 {
-        let recovery = cut_recovery(rt.alloc(), case, charge)?;
+    println!(rt; "{} {case} {end}", D::NAME)?;
+    for charge in 0..=case.pages {
+        let recovery = cut_recovery::<D>(rt.alloc(), case, charge)?;
         tally.count_recovery(recovery, end.stands);
     }
     Ok(())
 }
 
 // A commit of so many pages, with charge for none to all of its 2 * pages + 2 writes.
-fn show_charges(rt: &HostRuntime, kind: Kind, pages: u32, tally: &mut Tally) -> Result<(), Fault>
+fn show_charges<D: Trial>(rt: &HostRuntime, pages: u32, tally: &mut Tally) -> Result<(), Fault>
     requires { pages ≤ 6 }
 {
-    for charge in 0..2 * pages + 3 {
-        show(rt, Case::new(kind, pages, charge), tally)?;
+    for charge in 0..=2 * pages + 2 {
+        show::<D>(rt, Case::new(pages, charge), tally)?;
     }
     Ok(())
 }
 
-fn show_disk(rt: &HostRuntime, kind: Kind, tally: &mut Tally) -> Result<(), Fault> {
-    for pages in 1..7 {
-        show_charges(rt, kind, pages, tally)?;
+fn show_disk<D: Trial>(rt: &HostRuntime, tally: &mut Tally) -> Result<(), Fault> {
+    for pages in 1..=6 {
+        show_charges::<D>(rt, pages, tally)?;
     }
     Ok(())
 }
 
 fn main(rt: HostRuntime) -> Result<(), Fault> {
-    let mut tally = Tally::new();
-    show_disk(&rt, Kind::Plain, &mut tally)?;
-    show_disk(&rt, Kind::Banks, &mut tally)?;
+    let mut tally = Tally::default();
+    show_disk::<PlainDisk>(&rt, &mut tally)?;
+    show_disk::<BankedDisk>(&rt, &mut tally)?;
     println!(rt; "{tally}")?;
     Ok(())
 }

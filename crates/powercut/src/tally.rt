@@ -3,7 +3,7 @@ use crate::case::{End, Recovery};
 use crate::content::Stands;
 use std::fmt;
 
-#[derive(Clone, Copy)]
+#[derive(Clone, Copy, PartialEq, Eq, Debug, Default)]
 pub struct Tally {
     granted: u32,
     cut: u32,
@@ -20,19 +20,6 @@ fn raise(count: &mut u32) {
 }
 
 impl Tally {
-    pub fn new() -> Tally {
-        Tally {
-            granted: 0,
-            cut: 0,
-            old: 0,
-            new: 0,
-            torn: 0,
-            recoveries: 0,
-            recoveries_cut: 0,
-            changed: 0,
-        }
-    }
-
     pub fn count(&mut self, end: End) {
         match end.answer {
             Ok(()) => raise(&mut self.granted),
@@ -59,20 +46,22 @@ impl Tally {
 
 impl fmt::Display for Tally {
     fn fmt<W: fmt::Write>(&self, f: &mut fmt::Formatter<W>) -> fmt::Result {
-        let granted = self.granted;
-        let cut = self.cut;
-        let commits = granted.saturating_add(cut);
-        write!(f, "{commits} commits: {granted} granted, {cut} cut; ")?;
-        let old = self.old;
-        let new = self.new;
-        let torn = self.torn;
-        write!(f, "{old} old, {new} new, {torn} torn; ")?;
-        let recoveries = self.recoveries;
-        let recoveries_cut = self.recoveries_cut;
-        let changed = self.changed;
         write!(
             f,
-            "{recoveries} recoveries: {recoveries_cut} cut, {changed} with other content"
+            "{} commits: {} granted, {} cut; ",
+            self.granted.saturating_add(self.cut),
+            self.granted,
+            self.cut
+        )?;
+        write!(
+            f,
+            "{} old, {} new, {} torn; ",
+            self.old, self.new, self.torn
+        )?;
+        write!(
+            f,
+            "{} recoveries: {} cut, {} with other content",
+            self.recoveries, self.recoveries_cut, self.changed
         )
     }
 }

@@ -35,7 +35,7 @@ pub struct Shape {
 }
 
 // How a call needs the store to stand: with no group open, with one, in use either way, or with recovery due.
-#[derive(Clone, Copy)]
+#[derive(Clone, Copy, PartialEq, Eq, Debug)]
 pub enum Needs {
     Idle,
     Open,
@@ -61,49 +61,40 @@ pub fn check_phase(phase: Phase, needs: Needs, layer: u32) -> Result<(), Refusal
 pub trait Store {
     ghost means: { Self → Content };
 
-    // What ties a store to the part below it: made by its constructor and kept by every call.
-    ghost whole: { Self → Type 0 };
-
     fn shape(&self) -> Shape
-        ensures { whole self.now → result ≡ (means self.now).shape };
+        ensures { result ≡ (means self.now).shape };
 
     fn phase(&self) -> Phase
-        ensures { whole self.now → result ≡ phase_of (means self.now).stage };
+        ensures { result ≡ phase_of (means self.now).stage };
 
     // Opens a group.
     fn begin(&mut self) -> Result<Token, Refusal>
-        ensures outcome { whole self.old → Outcome call.begin (means self.old) result (means self.new) }
-        ensures stays { whole self.old → whole self.new };
+        ensures outcome { Outcome call.begin (means self.old) result (means self.new) };
 
     // Fills `out` with cell `n` of the working content and zeros.
     fn get(&self, n: u32, out: &mut [u8; 256]) -> Result<(), Refusal>
-        ensures outcome { whole self.now → Outcome (call.get n) (means self.now) result (means self.now) }
-        ensures buffer { whole self.now → Filled result (padded (slice_index_or (working (means self.now)) n [])) out.old out.new };
+        ensures outcome { Outcome (call.get n) (means self.now) result (means self.now) }
+        ensures buffer { Filled result (padded (slice_index_or (working (means self.now)) n [])) out.old out.new };
 
     // Replaces cell `n` of the working content by the first bytes of `v`.
     fn put(&mut self, n: u32, v: &[u8; 256]) -> Result<(), Refusal>
-        ensures outcome { whole self.old → Outcome (call.put n v.now) (means self.old) result (means self.new) }
-        ensures stays { whole self.old → whole self.new };
+        ensures outcome { Outcome (call.put n v.now) (means self.old) result (means self.new) };
 
     // Makes the working content durable. Where power goes, it is durable whole or not at all.
     fn commit(&mut self, token: Token) -> Result<(), Refusal>
-        ensures outcome { whole self.old → Outcome call.commit (means self.old) result (means self.new) }
-        ensures stays { whole self.old → whole self.new };
+        ensures outcome { Outcome call.commit (means self.old) result (means self.new) };
 
     // Drops the working content.
     fn abort(&mut self, token: Token) -> Result<(), Refusal>
-        ensures outcome { whole self.old → Outcome call.abort (means self.old) result (means self.new) }
-        ensures stays { whole self.old → whole self.new };
+        ensures outcome { Outcome call.abort (means self.old) result (means self.new) };
 
     // Gives the disk below that charge; an open group is dropped and recovery is due. Always accepted.
     fn power(&mut self, charge: u32)
-        ensures outcome { whole self.old → means self.new ≡ next (call.power charge) (means self.old) }
-        ensures stays { whole self.old → whole self.new };
+        ensures outcome { means self.new ≡ next (call.power charge) (means self.old) };
 
     // Makes the store ready from the disk's blocks alone.
     fn recover(&mut self) -> Result<(), Refusal>
-        ensures outcome { whole self.old → Outcome call.recover (means self.old) result (means self.new) }
-        ensures stays { whole self.old → whole self.new };
+        ensures outcome { Outcome call.recover (means self.old) result (means self.new) };
 
-    ghost formed: { (s : Self) → whole s → Formed (means s) };
+    ghost formed: { (s : Self) → Formed (means s) };
 }

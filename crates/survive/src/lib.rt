@@ -10,8 +10,7 @@ use store::{Store, Token};
 
 // Gives power back and recovers. Where power goes again in the recovery, it can be called again: nothing is lost.
 pub fn revive<S: Store>(store: &mut S, charge: u32) -> Result<(), Refusal>
-    ensures stays { S.whole store.old → S.whole store.new }
-    ensures revived { S.whole store.old → finding (S.means store.old).stage ≡ sound → Revived (S.means store.old) result (S.means store.new) }
+    ensures { finding (S.means store.old).stage ≡ sound → Revived (S.means store.old) result (S.means store.new) }
 {
     store.power(charge);
     store.recover()
@@ -24,8 +23,7 @@ pub fn survive<S: Store>(
     token: Token,
     charge: u32,
 ) -> Result<Result<(), Refusal>, Refusal>
-    ensures stays { S.whole store.old → S.whole store.new }
-    ensures survived { S.whole store.old → (w : Cells) (p : ℕ) → (S.means store.old).stage ≡ grouped w p → Survived (S.means store.old) w result (S.means store.new) }
+    ensures { (w : Cells) (p : ℕ) → (S.means store.old).stage ≡ grouped w p → Survived (S.means store.old) w result (S.means store.new) }
 {
     let answer = store.commit(token);
     revive(store, charge)?;

@@ -1,68 +1,31 @@
 -- The laws of counters and their bytes.
-use Rattle.std.proofs.Common.{◌≡◌, ℕ, zero, suc, ◌+◌, ◌-◌, ◌*◌, ◌/◌, ◌%◌, ◌^◌, ◌<◌, ◌≤◌, List, [], ◌∷◌, ◌++◌, length, get_or, take, drop, sym, refl, ap, ◌∙◌, ap₂, arith, length-append}
+use Rattle.std.proofs.Common.{◌≡◌, ℕ, zero, suc, ◌+◌, ◌-◌, ◌*◌, ◌/◌, ◌%◌, ◌^◌, ◌<◌, ◌≤◌, List, [], ◌∷◌, ◌++◌, map, length, get_or, take, drop, sym, refl, ap, ◌∙◌, ap₂, arith, length-append}
 use Rattle.std.specs.List.{AllByRecursion}
-use Rattle.std.proofs.lemmas.Nat.{shr-shr}
+use Rattle.std.specs.Int.{w32, from_le_bytes}
+use Rattle.std.specs.Simd.{first_chunks}
+use Rattle.std.proofs.lemmas.Nat.{from_le_bytes-to_le_bytes_4, le_bytes_4}
+use Rattle.std.proofs.lemmas.List.{get_or-map}
 use Rattle.std.proofs.ByRecursion.{All-append}
-use Rattle.tally.specs.CounterBytes.{counter_bytes, counters_bytes, counter_of, reading_counters, counter_from, with_counter, CountersReadBack, BytesReadBack, OneCounterChanges, ItsBytesChangeOne, CountersFit, ReadInParts, PlacesAreGood, CounterLaws}
-
--- a number by its low byte and the rest
-joined : (n : ℕ) → n ≡ n % 256 + 256 * (n / 256)
-joined n = omega arith
-
-parted : (n a q : ℕ) → n ≡ a + 256 * q → a < 256 → (n % 256 ≡ a) × (n / 256 ≡ q)
-parted n a q e h = (omega arith, omega arith)
-
-no_rest : (d : ℕ) → d ≡ d + 256 * 0
-no_rest d = omega arith
-
-module _ (n : ℕ) where
-  second : n / 256 / 256 ≡ n / 65536
-  second = shr-shr n 8 8
-
-  third : n / 65536 / 256 ≡ n / 16777216
-  third = shr-shr n 16 8
+use Rattle.tally.specs.CounterBytes.{counter_bytes, counters_bytes, counter_of, reading_counters, with_counter, CountersReadBack, BytesReadBack, OneCounterChanges, ItsBytesChangeOne, CountersFit, ReadInParts, PlacesAreGood, CounterLaws}
 
 -- one counter and its four bytes
-four_joined : (n x y z a b c d : ℕ) → n ≡ a + 256 * x → x ≡ b + 256 * y → y ≡ c + 256 * z → z ≡ d → counter_of a b c d ≡ n
-four_joined n x y z a b c d p q r s = omega arith
-
 pub counter_back : (n : ℕ) → n < 2 ^ 32 → counter_of (n % 256) (n / 256 % 256) (n / 65536 % 256) (n / 16777216 % 256) ≡ n
-counter_back n h =
-    let x = n / 256 in
-    let y = n / 65536 in
-    let z = n / 16777216 in
-    let top : z ≡ z % 256 = omega arith in
-    four_joined n x y z (n % 256) (x % 256) (y % 256) (z % 256) (joined n) (joined x ∙ ap (λ t. x % 256 + 256 * t) (second n)) (joined y ∙ ap (λ t. y % 256 + 256 * t) (third n)) top
+counter_back n h = from_le_bytes-to_le_bytes_4 n h
+
+each_small : (a b c d : ℕ) → a < 256 → b < 256 → c < 256 → d < 256 → (i : ℕ) → get_or (a ∷ b ∷ c ∷ d ∷ []) i 0 < 256
+each_small a b c d p q r s zero = p
+each_small a b c d p q r s (suc zero) = q
+each_small a b c d p q r s (suc (suc zero)) = r
+each_small a b c d p q r s (suc (suc (suc zero))) = s
+each_small a b c d p q r s (suc (suc (suc (suc i)))) = omega arith
 
 pub bytes_back : (a b c d : ℕ) → a < 256 → b < 256 → c < 256 → d < 256 → counter_bytes (counter_of a b c d) ≡ a ∷ b ∷ c ∷ d ∷ []
-bytes_back a b c d p q r s =
-    let n = counter_of a b c d in
-    let whole : n ≡ a + 256 * (b + 256 * (c + 256 * d)) = omega arith in
-    let one = parted n a (b + 256 * (c + 256 * d)) whole p in
-    let two = parted (n / 256) b (c + 256 * d) one.1 q in
-    let three = parted (n / 65536) c d (sym (second n) ∙ two.1) r in
-    let high : n / 16777216 ≡ d = sym (third n) ∙ three.1 in
-    let four = parted (n / 16777216) d 0 (high ∙ no_rest d) s in
-    let e₀ = one.0 in
-    let e₁ = two.0 in
-    let e₂ = three.0 in
-    let e₃ = four.0 in
-    cc
+bytes_back a b c d p q r s = le_bytes_4 (a ∷ b ∷ c ∷ d ∷ []) (counter_of a b c d) refl (each_small a b c d p q r s) refl
 
 counter_fits : (a b c d : ℕ) → a < 256 → b < 256 → c < 256 → d < 256 → counter_of a b c d < 2 ^ 32
 counter_fits a b c d p q r s = omega arith
 
 -- four bytes on
-step_first : (i a b c d : ℕ) (bs : List ℕ) → get_or (a ∷ b ∷ c ∷ d ∷ bs) (4 * suc i) 0 ≡ get_or bs (4 * i) 0
-step_first i a b c d bs =
-    let e : 4 * suc i ≡ suc (suc (suc (suc (4 * i)))) = omega arith in
-    ap (λ j. get_or (a ∷ b ∷ c ∷ d ∷ bs) j 0) e
-
-step_at : (i k a b c d : ℕ) (bs : List ℕ) → get_or (a ∷ b ∷ c ∷ d ∷ bs) (4 * suc i + k) 0 ≡ get_or bs (4 * i + k) 0
-step_at i k a b c d bs =
-    let e : 4 * suc i + k ≡ suc (suc (suc (suc (4 * i + k)))) = omega arith in
-    ap (λ j. get_or (a ∷ b ∷ c ∷ d ∷ bs) j 0) e
-
 step_with : (i v a b c d : ℕ) (bs : List ℕ) → with_counter (suc i) v (a ∷ b ∷ c ∷ d ∷ bs) ≡ a ∷ b ∷ c ∷ d ∷ with_counter i v bs
 step_with i v a b c d bs =
     let e : 4 * suc i ≡ suc (suc (suc (suc (4 * i)))) = omega arith in
@@ -145,18 +108,22 @@ counter_laws = record {
   zeros_are_zeros = (refl, refl);
 }
 
--- counter i is made of the four bytes from 4 · i on
-pub counter_is : (bs : List ℕ) (i : ℕ) → 4 * i + 4 ≤ length bs → get_or (reading_counters bs) i 0 ≡ counter_from bs (4 * i)
-counter_is [] i h = absurd (omega arith)
-counter_is (a ∷ []) i h = absurd (omega arith)
-counter_is (a ∷ b ∷ []) i h = absurd (omega arith)
-counter_is (a ∷ b ∷ c ∷ []) i h = absurd (omega arith)
-counter_is (a ∷ b ∷ c ∷ d ∷ bs) zero h = refl
-counter_is (a ∷ b ∷ c ∷ d ∷ bs) (suc i) h =
-    let l : 4 * i + 4 ≤ length bs = omega arith in
-    let rest = counter_is bs i l in
-    let e₀ = step_first i a b c d bs in
-    let e₁ = step_at i 1 a b c d bs in
-    let e₂ = step_at i 2 a b c d bs in
-    let e₃ = step_at i 3 a b c d bs in
-    cc
+-- whole counters, read four bytes at a time
+pub chunks_read : (k : ℕ) (bs : List ℕ) → length bs ≡ 4 * k → map (from_le_bytes w32) (first_chunks 4 k bs) ≡ reading_counters bs
+chunks_read zero [] e = refl
+chunks_read zero (b ∷ bs) e = absurd (omega arith)
+chunks_read (suc k) [] e = absurd (omega arith)
+chunks_read (suc k) (a ∷ []) e = absurd (omega arith)
+chunks_read (suc k) (a ∷ b ∷ []) e = absurd (omega arith)
+chunks_read (suc k) (a ∷ b ∷ c ∷ []) e = absurd (omega arith)
+chunks_read (suc k) (a ∷ b ∷ c ∷ d ∷ bs) e =
+    let l : length bs ≡ 4 * k = omega arith in
+    ap₂ ◌∷◌ (omega arith) (chunks_read k bs l)
+
+chunks_long : (k : ℕ) (bs : List ℕ) → length (first_chunks 4 k bs) ≡ k
+chunks_long zero bs = refl
+chunks_long (suc k) bs = ap suc (chunks_long k (drop 4 bs))
+
+-- and counter i of them
+pub chunk_at : (k : ℕ) (bs : List ℕ) (i : ℕ) → length bs ≡ 4 * k → i < k → from_le_bytes w32 (get_or (first_chunks 4 k bs) i []) ≡ get_or (reading_counters bs) i 0
+chunk_at k bs i e h = sym (get_or-map (from_le_bytes w32) (first_chunks 4 k bs) i [] 0 (omega (arith, chunks_long k bs))) ∙ ap (λ l. get_or l i 0) (chunks_read k bs e)

@@ -1,7 +1,6 @@
 -- The tally level's places after an add and after an undo.
-use Rattle.std.proofs.Common.{◌≡◌, ℕ, suc, ◌+◌, ◌-◌, ◌/◌, ◌%◌, ◌^◌, ◌<◌, ◌≤◌, ltb, List, [], ◌∷◌, ◌++◌, length, get_or, set, Some, None, sym, ap, ◌∙◌, subst, ⊎_elim, arith, length-set, get_or-set_other, get_or-set_same}
-use lib.Seq.{set-append_left}
-use Rattle.std.proofs.lemmas.List.{get_or_append_left, get_or-append_right}
+use Rattle.std.proofs.Common.{◌≡◌, ℕ, ◌+◌, ◌-◌, ◌/◌, ◌%◌, ◌^◌, ◌<◌, ◌≤◌, ltb, List, [], ◌∷◌, ◌++◌, length, get_or, set, Some, None, sym, ap, ◌∙◌, subst, ⊎_elim, arith, length-set, get_or-set_other, get_or-set_same}
+use Rattle.std.proofs.lemmas.List.{get_or_append_left, get_or-append_right, set-append_left, set-append_right}
 use Rattle.std.proofs.lemmas.Bool.{cases_lt, cond-true, lt-ltb}
 use Rattle.disk.specs.Device.{Each}
 use Rattle.disk.specs.Runs.{stored}
@@ -22,10 +21,6 @@ use Rattle.tally.specs.CounterBytes.{reading_counters, written_at, with_counter}
 use Rattle.tally.specs.TallyPlaces.{as_undo, undo_at, counters_of, counter_place, value_at, added, add_writes, undo_writes}
 use Rattle.tally.proofs.Bytes.{its_bytes_change_one, read_in_parts}
 use Rattle.tally.proofs.Slotted.{Intact, one_slot, slot_here}
-
-set_after : (xs ys : List ℕ) (i v : ℕ) → set (xs ++ ys) (length xs + i) v ≡ xs ++ set ys i v
-set_after [] ys i v = let z : 0 + i ≡ i = omega arith in ap (λ k. set ys k v) z
-set_after (x ∷ xs) ys i v = let z : suc (length xs) + i ≡ suc (length xs + i) = omega arith in ap (λ k. set (x ∷ (xs ++ ys)) k v) z ∙ ap (λ l. x ∷ l) (set_after xs ys i v)
 
 module _ (ps : List (List ℕ)) (long : 131 ≤ length ps) (even : Each 64 ps) (c n : ℕ) (h : c < 32) where
   low : List ℕ
@@ -82,12 +77,10 @@ module _ (ps : List (List ℕ)) (long : 131 ≤ length ps) (even : Each 64 ps) (
       let q : c / 16 ≡ 1 = omega arith in
       let r : c % 16 ≡ c - 16 = omega arith in
       let here : get_or qs 130 [] ≡ written_at (c % 16) w (get_or ps 130 []) = subst (λ x. get_or qs (129 + x) [] ≡ written_at (c % 16) w (get_or ps (129 + x) [])) q e in
-      let at : length (reading_counters (get_or ps 129 [])) + (c - 16) ≡ c = omega (arith, low_size) in
       ap (λ b. reading_counters b ++ reading_counters (get_or qs 130 [])) (o 129 (omega arith) (omega arith) (λ z. omega arith))
       ∙ ap (λ b. reading_counters (get_or ps 129 []) ++ reading_counters b) here
       ∙ ap (λ l. reading_counters (get_or ps 129 []) ++ l) (place_read 130 (omega arith) (omega arith) ∙ ap (λ i. set (reading_counters (get_or ps 130 [])) i w) r)
-      ∙ sym (set_after (reading_counters (get_or ps 129 [])) (reading_counters (get_or ps 130 [])) (c - 16) w)
-      ∙ ap (λ i. set (counters_of ps) i w) at
+      ∙ sym (set-append_right (reading_counters (get_or ps 129 [])) (reading_counters (get_or ps 130 [])) 16 c w low_size hi)
       ∙ last)
       (cases_lt c 16)
 
@@ -106,9 +99,6 @@ module _ (ps : List (List ℕ)) (a r p : ℕ) (x y z : List ℕ) where
   none_of q d e f = get_or-set_other (set (set ps a x) r y) p q z [] f ∙ get_or-set_other (set ps a x) r q y [] e ∙ get_or-set_other ps a q x [] d
 
 module _ (ps : List (List ℕ)) (s : List ℕ) (ss : List (Slot TallyOp)) (i : Intact ps s ss) (long : 131 ≤ length ps) (even : Each 64 ps) (t k c n : ℕ) (ht : t < 8) (hk : k < 16) (hc : c < 32) where
-  place_high : (counter_place c < 131) × (129 ≤ counter_place c)
-  place_high = (omega arith, omega arith)
-
   -- the records of a running slot
   pub records_of : (j : ℕ) (us : List TallyOp) → get_or (table_slots 8 16 (get_or ps 0 [])) t Committed ≡ Running j → slot_at ss t ≡ running us → undos undo_at (record_place 16) ps t j ≡ good us
   records_of j us e f = running_found us (undos undo_at (record_place 16) ps t j) (ap (λ (x : SlotState). slot_in undo_at (record_place 16) ps t x) (sym e) ∙ slot_here ps s ss i t ht ∙ ap good f)

@@ -1,3 +1,4 @@
 pub mod Bytes
 pub mod Slotted
 pub mod Counted
+pub mod Refused

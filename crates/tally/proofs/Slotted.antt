@@ -1,5 +1,6 @@
 -- The tally level's reading of its places, when one call's writes are made.
-use Rattle.std.proofs.Common.{◌≡◌, ℕ, zero, suc, ◌+◌, ◌<◌, ◌≤◌, true, List, [], ◌∷◌, ◌++◌, map, length, get_or, take, set, sym, refl, ap, ◌∙◌, subst, ⊎_elim, arith, get_or-set_other, get_or-set_same}
+use Rattle.std.proofs.Common.{◌≡◌, ℕ, ◌+◌, ◌<◌, ◌≤◌, true, List, [], ◌++◌, length, get_or, take, set, sym, ap, ◌∙◌, subst, ⊎_elim, arith, get_or-set_other, get_or-set_same}
+use Rattle.std.proofs.lemmas.List.{length-map, length-take-le}
 use Rattle.std.proofs.lemmas.Bool.{cases_Bool, cond-true, cond-false}
 use Rattle.theory.specs.Machine.{damaged, intact}
 use Rattle.theory.specs.Slots.{Slot, slot_at}
@@ -46,17 +47,9 @@ within_live m Committed w = omega arith
 within_live m Undone w = omega arith
 within_live m (Running k) w = w
 
-length_map_take : (f : ℕ → SlotState) (n : ℕ) (bs : List ℕ) → n ≤ length bs → length (map f (take n bs)) ≡ n
-length_map_take f zero bs h = refl
-length_map_take f (suc n) [] h = absurd (omega arith)
-length_map_take f (suc n) (b ∷ bs) h = ap suc (length_map_take f n bs (omega arith))
-
 module _ (ps : List (List ℕ)) (s : List ℕ) (ss : List (Slot TallyOp)) (k : Intact ps s ss) where
-  tbl : List ℕ
-  tbl = get_or ps 0 []
-
   many : length (table_slots 8 16 (get_or ps 0 [])) ≡ 8
-  many = length_map_take _ 8 (get_or ps 0 []) (table_parts 8 16 (get_or ps 0 []) k.table).room
+  many = length-map (take 8 (get_or ps 0 [])) _ ∙ length-take-le 8 (get_or ps 0 []) (table_parts 8 16 (get_or ps 0 []) k.table).room
 
   pub slot_within : (t : ℕ) → t < 8 → Within 16 (get_or (table_slots 8 16 (get_or ps 0 [])) t Committed)
   slot_within t h = (byte_same 16 (get_or (get_or ps 0 []) t 0) (get_or (table_slots 8 16 (get_or ps 0 [])) t Committed) (slot_found 8 16 t (get_or ps 0 []) h k.table)).1

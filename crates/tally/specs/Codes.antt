@@ -1,5 +1,5 @@
 -- Operations of the tally level as codes, and codes as undo records.
-use Rattle.std.specs.Prelude.{◌<◌, cond, Some, None, Option, nat_lt}
+use Rattle.std.specs.Prelude.{◌≡◌, ◌<◌, cond, Some, None, Option, nat_lt}
 use Rattle.number.specs.declared.Code.{Code}
 use Rattle.number.specs.declared.Code.TheVariants as coded
 use Rattle.tally.specs.declared.TallyOp.{TallyOp}
@@ -23,3 +23,8 @@ tally_undo (coded.Load n) = None
 abbrev pub Recordable : TallyOp → Type 0
 Recordable (Add c n) = c < 32
 Recordable (Read c) = ⊥
+
+-- an operation's code, which is read back where it may stand in an undo record
+pub record CodeOf (op : TallyOp) (c : Code) : Type 0 where
+  pub value : c ≡ tally_code op
+  pub back : Recordable op → tally_undo c ≡ Some op

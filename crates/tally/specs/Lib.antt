@@ -4,3 +4,4 @@ pub mod Codes
 pub mod CounterBytes
 pub mod TallyPlaces
 pub mod TallyTurns
+pub mod Entries

@@ -14,16 +14,9 @@ use Rattle.level.specs.Records.{reading_record, record_bytes, record_place}
 use Rattle.level.specs.Levels.{Found, bad, good, slots_in}
 use Rattle.tally.specs.declared.TallyOp.{TallyOp}
 use Rattle.tally.specs.declared.TallyOp.TheVariants.{Add}
-use Rattle.tally.specs.declared.content.TallyContent.{TallyContent}
-use Rattle.tally.specs.declared.content.TallyContent.TheVariants as content
 use Rattle.tally.specs.Tallies.{inverse_amount}
 use Rattle.tally.specs.Codes.{tally_code, tally_undo}
 use Rattle.tally.specs.CounterBytes.{reading_counters, written_at}
-
--- what a place is filled with
-abbrev pub content_bytes : TallyContent → List ℕ
-content_bytes (content.Bytes bs) = bs
-content_bytes (content.Record c) = record_bytes c
 
 abbrev pub as_undo : Option Code → Option TallyOp
 as_undo None = None
@@ -65,7 +58,7 @@ add_writes ps t k c n =
 abbrev pub undo_writes : List (List ℕ) → ℕ → ℕ → ℕ → ℕ → List Write
 undo_writes ps t k c n = (0, slice_set (slice_index_or ps 0 []) t (slot_byte (Running k))) ∷ (counter_place c, added ps c n) ∷ []
 
--- a store that has room for the level
+-- a store that has room for the level. A premise of each promise, and no fact of a type: the level owns no store, and the store that a call is passed may be any.
 pub record Roomy (m : Content) : Type 0 where
   pub stage : m.stage ≡ idle
   pub places : 131 ≤ length (shown m)

@@ -1,46 +1,84 @@
 // Operations and undos of the tally level on the places of any store.
-ghost use Rattle.std.specs.Prelude.{◌≡◌, ℕ, ◌<◌, ◌≤◌, true, List, [], Some, Err, slice_index_or};
+ghost use Rattle.std.specs.Prelude.{◌≡◌, ℕ, ◌-◌, ◌<◌, ◌≤◌, true, [], MatchOption, IfOk, Some, Err, slice_index_or};
 ghost use Rattle.place.specs.Writes.{shown};
 ghost use Rattle.level.specs.Turns.{barred_below, table_of, Turned};
 ghost use Rattle.level.specs.SlotTable.{table_ok};
+ghost use Rattle.tally.specs.Codes.{Recordable};
 ghost use Rattle.tally.specs.TallyPlaces.{Roomy, undo_at};
 ghost use Rattle.tally.specs.TallyTurns.{counter_of, performs, Acted, apply_act, loaded, takes_back, undo_turn};
+ghost use Rattle.tally.specs.Entries.{tally_plan, OfTally, EntryOf};
 
-use crate::kept::{read_value, write_add, write_undo};
-use crate::{COUNTERS, TallyAnswer, TallyOp, undo_of};
-use level::records::{read_record, record_place};
-use level::slots::SlotState;
-use level::turns::{Located, Plan, find_slot};
+use crate::counters::Counter;
+use crate::entry::Entry;
+use crate::kept::{add_to, take_from, value_of};
+use crate::{RECORDS, SLOTS, TallyAnswer, TallyOp, undo_of};
+use level::records::read_record;
+use level::running::RunningSlot;
+use level::turns::Plan;
 use place::read_place;
 use refusal::{Reason, Refusal};
 use store::Store;
 
-fn counter(op: TallyOp) -> u32
-    ensures { result ≡ counter_of op }
+// The level's slots and records, at its number in a stack.
+fn plan(layer: u32) -> Plan
+    ensures { result ≡ tally_plan layer }
 {
-    match op {
-        TallyOp::Add { counter, amount: _ } => counter,
-        TallyOp::Read { counter } => counter,
+    Plan {
+        layer,
+        slots: SLOTS,
+        records: RECORDS,
+    }
+}
+
+impl Entry {
+    // The record that an operation on the slot writes next; None where the slot has no room for one more.
+    fn next(found: &RunningSlot) -> Option<Entry>
+        requires { OfTally found.now.plan }
+        ensures { MatchOption result (16 ≤ found.now.records) (EntryOf found.now found.now.records) }
+    {
+        if found.records >= RECORDS {
+            return None;
+        }
+        let table = found.table;
+        Some(Entry {
+            layer: found.plan.layer,
+            table,
+            slot: found.number,
+            index: found.records,
+        })
+    }
+
+    // The newest record of the slot; None where it has none.
+    fn newest(found: &RunningSlot) -> Option<Entry>
+        requires { OfTally found.now.plan }
+        ensures { MatchOption result (found.now.records ≡ 0) (λ e. (0 < found.now.records) × EntryOf found.now (found.now.records - 1) e) }
+    {
+        let index = found.records.checked_sub(1)?;
+        let table = found.table;
+        Some(Entry {
+            layer: found.plan.layer,
+            table,
+            slot: found.number,
+            index,
+        })
     }
 }
 
 // An operation on a running slot that has room for one record more.
 fn perform<S: Store>(
     store: &mut S,
-    layer: u32,
-    found: &Located,
-    k: u8,
+    entry: &Entry,
+    counter: Counter,
     op: TallyOp,
 ) -> Result<TallyAnswer, Refusal>
-    ensures acted { S.whole store.old → Roomy (S.means store.old) → found.now.table ≡ slice_index_or (shown (S.means store.old)) 0 [] → found.now.number < 8 → k < 16 → counter_of op < 32 → Acted (performs op found.now.number k (S.means store.old)) (S.means store.old) result (S.means store.new) }
-    ensures stays { S.whole store.old → S.whole store.new }
+    ensures acted { Roomy (S.means store.old) → entry.now.table ≡ slice_index_or (shown (S.means store.old)) 0 [] → counter.number ≡ counter_of op → Acted (performs op entry.now.slot entry.now.index (S.means store.old)) (S.means store.old) result (S.means store.new) }
 {
     match op {
-        TallyOp::Add { counter, amount } => {
-            write_add(store, layer, found, k, counter, amount)?;
+        TallyOp::Add { amount, .. } => {
+            add_to(store, entry, counter, amount)?;
             Ok(TallyAnswer::Added)
         }
-        TallyOp::Read { counter } => Ok(TallyAnswer::Value(read_value(store, layer, counter)?)),
+        TallyOp::Read { .. } => Ok(TallyAnswer::Value(value_of(store, counter)?)),
     }
 }
 
@@ -51,88 +89,53 @@ pub fn apply_op<S: Store>(
     t: u32,
     op: TallyOp,
 ) -> Result<TallyAnswer, Refusal>
-    ensures barred { S.whole store.old → (e : Refusal) → barred_below layer (S.means store.old) ≡ Some e → (result ≡ Err e) × (S.means store.new ≡ S.means store.old) }
-    ensures acted { S.whole store.old → Roomy (S.means store.old) → table_ok 8 16 (table_of (S.means store.old)) ≡ true → Acted (apply_act layer t op (S.means store.old)) (S.means store.old) result (S.means store.new) }
-    ensures stays { S.whole store.old → S.whole store.new }
+    ensures barred { (e : Refusal) → barred_below layer (S.means store.old) ≡ Some e → (result ≡ Err e) × (S.means store.new ≡ S.means store.old) }
+    ensures acted { Roomy (S.means store.old) → table_ok 8 16 (table_of (S.means store.old)) ≡ true → Acted (apply_act layer t op (S.means store.old)) (S.means store.old) result (S.means store.new) }
 {
-    let found = find_slot(
-        store,
+    let found = plan(layer).find_running(store, t)?;
+    let number = op.counter();
+    let counter = Counter::new(number).ok_or(Refusal::new(
+        Reason::OutOfRange,
         layer,
-        Plan {
-            slots: 8,
-            records: 16,
-        },
-        t,
-    )?;
-    let SlotState::Running(k) = found.slot else {
-        return Err(Refusal::new(Reason::WrongState, layer, u64::from(t)));
-    };
-    let number = counter(op);
-    if number >= COUNTERS {
-        return Err(Refusal::new(Reason::OutOfRange, layer, u64::from(number)));
-    }
-    if k >= 16 {
-        return Err(Refusal::new(Reason::LimitReached, layer, u64::from(t)));
-    }
-    perform(store, layer, &found, k, op)
+        u64::from(number),
+    ))?;
+    let entry = Entry::next(&found).ok_or(Refusal::new(Reason::LimitReached, layer, u64::from(t)))?;
+    perform(store, &entry, counter, op)
 }
 
 // Reads an undo record.
-fn load_undo<S: Store>(store: &S, layer: u32, t: u8, j: u8) -> Result<TallyOp, Refusal>
-    ensures { S.whole store.now → Roomy (S.means store.now) → t < 8 → j < 16 → result ≡ loaded layer t j (undo_at (shown (S.means store.now)) t j) }
+fn load_undo<S: Store>(store: &S, entry: &Entry) -> Result<TallyOp, Refusal>
+    ensures loaded { Roomy (S.means store.now) → result ≡ loaded entry.now.layer entry.now.slot entry.now.index (undo_at (shown (S.means store.now)) entry.now.slot entry.now.index) }
+    ensures recordable { IfOk result Recordable }
 {
-    let place = record_place(16, t, j);
     let mut bytes = [0; 64];
-    read_place(store, place, &mut bytes)?;
-    let Some(code) = read_record(&bytes) else {
-        return Err(Refusal::new(Reason::Damaged, layer, u64::from(place)));
-    };
-    match undo_of(code) {
-        Some(op) => Ok(op),
-        None => Err(Refusal::new(Reason::Damaged, layer, u64::from(place))),
-    }
+    read_place(store, entry.place(), &mut bytes)?;
+    read_record(&bytes).and_then(undo_of).ok_or(Refusal::new(
+        Reason::Damaged,
+        entry.layer,
+        u64::from(entry.place()),
+    ))
 }
 
-// Takes record `j` of a slot back, its newest.
-fn take_back<S: Store>(store: &mut S, layer: u32, found: &Located, j: u8) -> Result<(), Refusal>
-    ensures turned { S.whole store.old → Roomy (S.means store.old) → found.now.table ≡ slice_index_or (shown (S.means store.old)) 0 [] → found.now.number < 8 → j < 16 → Turned (takes_back layer found.now.number j (S.means store.old) (loaded layer found.now.number j (undo_at (shown (S.means store.old)) found.now.number j))) (S.means store.old) result (S.means store.new) }
-    ensures stays { S.whole store.old → S.whole store.new }
+// Takes the newest record of a slot back.
+fn take_back<S: Store>(store: &mut S, entry: &Entry) -> Result<(), Refusal>
+    ensures turned { Roomy (S.means store.old) → entry.now.table ≡ slice_index_or (shown (S.means store.old)) 0 [] → Turned (takes_back entry.now.layer entry.now.slot entry.now.index (S.means store.old) (loaded entry.now.layer entry.now.slot entry.now.index (undo_at (shown (S.means store.old)) entry.now.slot entry.now.index))) (S.means store.old) result (S.means store.new) }
 {
-    match load_undo(store, layer, found.number, j) {
-        Ok(TallyOp::Add { counter, amount }) => write_undo(store, layer, found, j, counter, amount),
-        Ok(TallyOp::Read { counter: _ }) => Err(Refusal::new(
-            Reason::Damaged,
-            layer,
-            u64::from(record_place(16, found.number, j)),
-        )),
-        Err(e) => Err(e),
-    }
+    let damaged = Refusal::new(Reason::Damaged, entry.layer, u64::from(entry.place()));
+    let TallyOp::Add { counter, amount } = load_undo(store, entry)? else {
+        return Err(damaged);
+    };
+    // never refused: an undo is about one of the counters
+    let counter = Counter::new(counter).ok_or(damaged)?;
+    take_from(store, entry, counter, amount)
 }
 
 // Applies the newest undo record of a slot and removes it.
 pub fn undo_newest<S: Store>(store: &mut S, layer: u32, t: u32) -> Result<(), Refusal>
-    ensures barred { S.whole store.old → (e : Refusal) → barred_below layer (S.means store.old) ≡ Some e → (result ≡ Err e) × (S.means store.new ≡ S.means store.old) }
-    ensures turned { S.whole store.old → Roomy (S.means store.old) → table_ok 8 16 (table_of (S.means store.old)) ≡ true → Turned (undo_turn layer t (S.means store.old)) (S.means store.old) result (S.means store.new) }
-    ensures stays { S.whole store.old → S.whole store.new }
+    ensures barred { (e : Refusal) → barred_below layer (S.means store.old) ≡ Some e → (result ≡ Err e) × (S.means store.new ≡ S.means store.old) }
+    ensures turned { Roomy (S.means store.old) → table_ok 8 16 (table_of (S.means store.old)) ≡ true → Turned (undo_turn layer t (S.means store.old)) (S.means store.old) result (S.means store.new) }
 {
-    let found = find_slot(
-        store,
-        layer,
-        Plan {
-            slots: 8,
-            records: 16,
-        },
-        t,
-    )?;
-    let SlotState::Running(k) = found.slot else {
-        return Err(Refusal::new(Reason::WrongState, layer, u64::from(t)));
-    };
-    if k == 0 {
-        return Err(Refusal::new(Reason::WrongState, layer, u64::from(t)));
-    }
-    // a sound table has no such count
-    if k > 16 {
-        return Err(Refusal::new(Reason::Damaged, layer, 0));
-    }
-    take_back(store, layer, &found, k - 1)
+    let found = plan(layer).find_running(store, t)?;
+    let entry = Entry::newest(&found).ok_or(Refusal::new(Reason::WrongState, layer, u64::from(t)))?;
+    take_back(store, &entry)
 }

@@ -5,6 +5,4 @@ use Rattle.place.specs.Writes.{shown, listed, Begun}
 use Rattle.place.proofs.put_all.Given as goal
 
 abbrev pub invariant-loop-write : goal.invariant-loop-write
-invariant-loop-write g l =
-    (g.S.Store.whole l.initial.s → g.S.Store.whole l.s)
-    × ((m : Content) → g.S.Store.whole l.initial.s → Begun m (shown m) 0 (g.S.Store.means l.initial.s) → Inside (length (shown m)) (listed g.C.Fill.bytes l.writes) → length l.writes ≤ m.shape.limit → Begun m (stored (take l.write-index (listed g.C.Fill.bytes l.writes)) (shown m)) l.write-index (g.S.Store.means l.s))
+invariant-loop-write g l = (m : Content) → Begun m (shown m) 0 (g.S.Store.means l.initial.s) → Inside (length (shown m)) (listed g.C.Fill.bytes l.writes) → length l.writes ≤ m.shape.limit → Begun m (stored (take l.write-index (listed g.C.Fill.bytes l.writes)) (shown m)) l.write-index (g.S.Store.means l.s)

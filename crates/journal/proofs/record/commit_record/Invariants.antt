@@ -3,4 +3,4 @@ use Rattle.journal.proofs.Writing.{Holds, so_far}
 use Rattle.journal.proofs.record.commit_record.Given as goal
 
 abbrev pub invariant-loop-p : goal.invariant-loop-p
-invariant-loop-p l = (length l.record ≡ 256) × Holds (so_far l.pages l.p-index) l.end l.record
+invariant-loop-p l = (length l.record ≡ 256) × Holds (so_far l.p-items l.p-index) l.end l.record

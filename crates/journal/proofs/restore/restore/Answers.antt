@@ -1,9 +1,11 @@
-use Rattle.std.proofs.Common.{◌≡◌, ◌-◌, ◌<◌, true, length, Err, vec_items, ap, ◌∙◌, arith}
+use Rattle.std.proofs.Common.{◌≡◌, ◌-◌, ◌<◌, true, [], ◌∷◌, length, Err, ap, ◌∙◌, arith}
+use Rattle.std.proofs.lemmas.Result.{err_from_is_err_and}
 use Rattle.disk.proofs.Runs.{Ran, as_run}
 use Rattle.disk.proofs.Writes.{read_done, read_granted}
+use Rattle.journal.specs.declared.writes.Part.TheVariants as part
 use Rattle.journal.specs.Record.{named}
-use Rattle.journal.specs.Layout.{names, naming, writes_from}
-use Rattle.journal.specs.Groups.{entries}
+use Rattle.journal.specs.Names.{names}
+use Rattle.journal.specs.Layout.{naming, writes_of}
 use Rattle.journal.proofs.Restoring.{restored_damaged, restored}
 use Rattle.journal.proofs.restore.restore.Goals as goal
 
@@ -16,24 +18,24 @@ returns-in_err-read g c =
       answer = λ p. read_granted 0 d c.read.result _ p h c.read.ensures.answer c.in_err-read.was;
     }
 
-pub returns-then-not-read_record : goal.returns-then-not-read_record
-returns-then-not-read_record g c =
+pub returns-in_err-read_record : goal.returns-in_err-read_record
+returns-in_err-read_record g c =
     let d = g.D.Disk.means c.args.disk.now in
     let h : 0 < length d.blocks = omega (arith, (g.met.D.Disk.formed c.args.disk.now).least) in
+    let r = err_from_is_err_and c.from_residual-in_err-read_record.result c.from_residual-in_err-read_record.ensures.1 in
     let k = λ (p : d.powered ≡ true).
     let got = read_done 0 d _ c.read.new.out c.read.result p h c.read.ensures.answer c.read.ensures.buffer in
-    restored_damaged (naming d.blocks) d (c.if-not-read_record.ensures ∙ ap (λ n. named (n - 7) c.read.new.out) c.count.ensures ∙ ap (named (length d.blocks - 7)) got.1) in
-    record { after = λ p. (k p).after; answer = λ p. ap Err c.new.ensures ∙ (k p).answer }
+    restored_damaged (naming d.blocks) d (c.in_err-read_record.ensures ∙ ap (λ n. named (n - 7) c.read.new.out) c.count.ensures ∙ ap (named (length d.blocks - 7)) got.1) in
+    record { after = λ p. (k p).after; answer = λ p. r.1 ∙ ap Err r.2 ∙ (k p).answer }
 
 pub returns : goal.returns
 returns g c =
     let d = g.D.Disk.means c.args.disk.now in
     let h : 0 < length d.blocks = omega (arith, (g.met.D.Disk.formed c.args.disk.now).least) in
-    let pages = c.read_record.new.group.pages in
-    let ps = names (entries (vec_items pages)) in
+    let ps = names c.read_record.new.group in
     let k = λ (p : d.powered ≡ true).
     let got = read_done 0 d _ c.read.new.out c.read.result p h c.read.ensures.answer c.read.ensures.buffer in
     let run : Ran _ _ _ _ = record { after = c.write_parts.ensures.after; answer = c.write_parts.ensures.answer } in
-    let same = ap (λ l. writes_from 2 (entries l)) c.deref.ensures.value ∙ ap (writes_from 2) (c.load_frames.ensures p).1 in
-    restored (naming d.blocks) ps d _ _ (c.if-not-read_record.ensures ∙ ap (λ n. named (n - 7) c.read.new.out) c.count.ensures ∙ ap (named (length d.blocks - 7)) got.1) (as_run same run) in
+    let same = ap (writes_of (part.Pages ∷ part.EmptyRecord ∷ [])) (c.load_frames.ensures p).1 in
+    restored (naming d.blocks) ps d _ _ (c.in_ok-read_record.ensures ∙ ap (λ n. named (n - 7) c.read.new.out) c.count.ensures ∙ ap (named (length d.blocks - 7)) got.1) (as_run same run) in
     record { after = λ p. (k p).after; answer = λ p. (k p).answer }

@@ -1,34 +1,22 @@
-use Rattle.std.proofs.Common.{refl, ap, ◌∙◌}
 use Rattle.std.proofs.lemmas.Result.{err_from_is_err_and}
-use Rattle.disk.specs.Device.{answer}
-use Rattle.store.specs.Meaning.{phase_bar, Outcome, barring}
+use Rattle.store.specs.Meaning.{phase_bar}
 use Rattle.store.specs.Meaning as call
 use Rattle.store.specs.declared.Needs.TheVariants as needs
-use Rattle.journal.specs.Meaning.{group_of}
-use Rattle.journal.specs.Stages.{refused_phase, first_begin, answer_ok, stands_idle, begun, begun_whole}
+use Rattle.journal.specs.Stages.{refused_phase, first_begin, stands_idle, begun}
+use Rattle.journal.proofs.Admits.{denied, admitted}
 use Rattle.journal.proofs.calls.JournalStore.begin.Goals as goal
 
-pub returns-in_err-check_phase : goal.returns-in_err-check_phase
-returns-in_err-check_phase g c =
+pub returns-in_err-check_phase-clause-outcome : goal.returns-in_err-check_phase-clause-outcome
+returns-in_err-check_phase-clause-outcome g c =
     let j = c.args.self.now in
     let d = g.D.Disk.means j.disk in
     let r = err_from_is_err_and c.from_residual.result c.from_residual.ensures.1 in
-    record {
-      outcome = λ w.
-          let said = c.in_err-check_phase.ensures ∙ ap (λ x. answer (phase_bar needs.Idle x 1)) c.standing.ensures in
-          rw (r.1, r.2) (refused_phase d.powered d.blocks j.mode (group_of j) j.puts call.begin needs.Idle _ (first_begin _ _) said);
-      stays = λ w. w;
-      disk = refl;
-    }
+    let said = denied d j.mode j.group _ c.standing.ensures needs.Idle _ c.in_err-check_phase.ensures in
+    rw (r.1, r.2) (refused_phase d.powered d.blocks j.mode j.group call.begin needs.Idle _ (first_begin _ _) said)
 
-pub returns : goal.returns
-returns g c =
+pub returns-clause-outcome : goal.returns-clause-outcome
+returns-clause-outcome g c =
     let j = c.args.self.now in
     let d = g.D.Disk.means j.disk in
-    let ok =
-    stands_idle d.blocks (group_of j) j.puts d.powered j.mode (answer_ok _ _ (c.in_ok-check_phase.ensures ∙ ap (λ x. answer (phase_bar needs.Idle x 1)) c.standing.ensures)) in
-    record {
-      outcome = λ w. begun d.powered d.blocks j.mode (group_of j) _ j.puts ok c.clear.ensures.none;
-      stays = λ w. begun_whole d.powered d.blocks j.mode (group_of j) _ j.puts ok c.clear.ensures.none w;
-      disk = refl;
-    }
+    let ok = stands_idle d.blocks j.group d.powered j.mode (admitted d j.mode j.group _ c.standing.ensures needs.Idle _ c.in_ok-check_phase.ensures) in
+    begun d.powered d.blocks j.mode j.group _ ok c.clear.ensures

@@ -1,16 +1,15 @@
-use Rattle.std.proofs.Common.{◌<◌, ◌≤◌, cond, Some, vec_items, vec_len, sym, refl, ap, ◌∙◌, arith}
+use Rattle.journal.specs.Meaning.{puts_of}
+use Rattle.std.proofs.Common.{is_ok, ◌<◌, cond, Some, sym, refl, ap, ◌∙◌, arith}
 use Rattle.std.proofs.lemmas.Result.{err_from_is_err_and}
 use Rattle.journal.specs.Groups.{remembered}
-use Rattle.journal.proofs.Writing.{length_entries}
-use Rattle.refusal.specs.declared.Reason.TheVariants.{OutOfRange, LimitReached}
+use Rattle.refusal.specs.declared.Reason.TheVariants.{LimitReached}
 use Rattle.refusal.specs.Refusals.{refusal}
-use Rattle.disk.specs.Device.{answer}
 use Rattle.journal.specs.Layout.{cells_of}
 use Rattle.store.specs.Meaning.{phase_bar}
 use Rattle.store.specs.Meaning as call
 use Rattle.store.specs.declared.Needs.TheVariants as needs
-use Rattle.journal.specs.Meaning.{group_of, wholly}
-use Rattle.journal.specs.Stages.{refused_phase, first_put, answer_ok, stands_open, opened_at, put_beyond, put_full, put_refused, put_call}
+use Rattle.journal.specs.Stages.{refused_phase, first_put, stands_open, opened_at, put_beyond, put_full, put_refused, put_call}
+use Rattle.journal.proofs.Admits.{denied, admitted}
 use Rattle.journal.proofs.calls.JournalStore.put.Goals as goal
 
 pub returns-in_err-check_phase : goal.returns-in_err-check_phase
@@ -18,50 +17,57 @@ returns-in_err-check_phase g c =
     let j = c.args.self.now in
     let d = g.D.Disk.means j.disk in
     let r = err_from_is_err_and c.from_residual.result c.from_residual.ensures.1 in
-    let said = c.in_err-check_phase.ensures ∙ ap (λ x. answer (phase_bar needs.Open x 1)) c.standing.ensures in
+    let said = denied d j.mode j.group _ c.standing.ensures needs.Open _ c.in_err-check_phase.ensures in
     record {
-      outcome = λ w. rw (r.1, r.2) (refused_phase d.powered d.blocks j.mode (group_of j) j.puts (call.put c.args.n c.args.v.now) needs.Open _ (first_put _ _ _ _) said);
-      stays = λ w. w;
+      outcome = rw (r.1, r.2) (refused_phase d.powered d.blocks j.mode j.group (call.put c.args.n c.args.v.now) needs.Open _ (first_put _ _ _ _) said);
       disk = refl;
     }
 
-pub returns-then-n-cells : goal.returns-then-n-cells
-returns-then-n-cells g c =
+pub returns-in_err-page : goal.returns-in_err-page
+returns-in_err-page g c =
     let j = c.args.self.now in
     let d = g.D.Disk.means j.disk in
-    let ok = stands_open d.blocks (group_of j) j.puts d.powered j.mode (answer_ok _ _ (c.in_ok-check_phase.ensures ∙ ap (λ x. answer (phase_bar needs.Open x 1)) c.standing.ensures)) in
-    let h : cells_of d.blocks ≤ c.args.n = omega (arith, c.cells.ensures, c.if-n-cells.true) in
-    let why = put_beyond d.blocks (group_of j) j.puts c.args.n c.args.v.now h in
+    let ok = stands_open d.blocks j.group d.powered j.mode (admitted d j.mode j.group _ c.standing.ensures needs.Open _ c.in_ok-check_phase.ensures) in
+    let r = err_from_is_err_and c.from_residual-in_err-page.result c.from_residual-in_err-page.ensures.1 in
+    let why = put_beyond d.blocks j.group (puts_of j.mode) c.args.n c.args.v.now c.in_err-page.ensures.1 in
+    record { outcome = rw (r.1, r.2) (put_refused d.powered d.blocks j.mode j.group c.args.n c.args.v.now c.in_err-page.field-0.0 ok (why ∙ ap Some (sym c.in_err-page.ensures.0))); disk = refl }
+
+pub returns-then-puts-ge-LIMIT : goal.returns-then-puts-ge-LIMIT
+returns-then-puts-ge-LIMIT g c =
+    let j = c.args.self.now in
+    let d = g.D.Disk.means j.disk in
+    let ok = stands_open d.blocks j.group d.powered j.mode (admitted d j.mode j.group _ c.standing.ensures needs.Open _ c.in_ok-check_phase.ensures) in
+    let h : c.args.n < cells_of d.blocks = c.in_ok-page.ensures.1 in
+    let why = put_full d.blocks j.group (puts_of j.mode) c.args.n c.args.v.now h (omega (arith, c.puts-puts.ensures, c.if-puts-ge-LIMIT.true)) in
     record {
-      outcome = λ w. put_refused d.powered d.blocks j.mode (group_of j) j.puts c.args.n c.args.v.now c.new.result ok (why ∙ ap (λ x. Some (refusal OutOfRange 1 x)) (sym c.from.ensures) ∙ ap Some (sym c.new.ensures));
-      stays = λ w. w;
+      outcome = put_refused d.powered d.blocks j.mode j.group c.args.n c.args.v.now c.new.result ok (why ∙ ap (λ x. Some (refusal LimitReached 1 x)) (sym c.from.ensures) ∙ ap Some (sym c.new.ensures));
       disk = refl;
     }
 
-pub returns-then-self-ge-LIMIT : goal.returns-then-self-ge-LIMIT
-returns-then-self-ge-LIMIT g c =
+pub unwrap-requires : goal.unwrap-requires
+unwrap-requires g c =
     let j = c.args.self.now in
     let d = g.D.Disk.means j.disk in
-    let ok = stands_open d.blocks (group_of j) j.puts d.powered j.mode (answer_ok _ _ (c.in_ok-check_phase.ensures ∙ ap (λ x. answer (phase_bar needs.Open x 1)) c.standing.ensures)) in
-    let h : c.args.n < cells_of d.blocks = omega (arith, c.cells.ensures, c.if-n-cells.false) in
-    let why = put_full d.blocks (group_of j) j.puts c.args.n c.args.v.now h (omega arith) in
-    record {
-      outcome = λ w. put_refused d.powered d.blocks j.mode (group_of j) j.puts c.args.n c.args.v.now c.new-then-self-ge-LIMIT.result ok (why ∙ ap (λ x. Some (refusal LimitReached 1 x)) (sym c.from-then-self-ge-LIMIT.ensures) ∙ ap Some (sym c.new-then-self-ge-LIMIT.ensures));
-      stays = λ w. w;
-      disk = refl;
-    }
+    let ok = stands_open d.blocks j.group d.powered j.mode (admitted d j.mode j.group _ c.standing.ensures needs.Open _ c.in_ok-check_phase.ensures) in
+    let o = opened_at d.powered d.blocks j.mode j.group ok j.whole in
+    ap is_ok (c.put.ensures.room (omega (arith, o.few, c.puts-puts.ensures, c.if-puts-ge-LIMIT.false)))
+
+pub invariant_of-self : goal.invariant_of-self
+invariant_of-self g c =
+    let j = c.args.self.now in
+    let d = g.D.Disk.means j.disk in
+    let ok = stands_open d.blocks j.group d.powered j.mode (admitted d j.mode j.group _ c.standing.ensures needs.Open _ c.in_ok-check_phase.ensures) in
+    let h : c.args.n < cells_of d.blocks = c.in_ok-page.ensures.1 in
+    let few : puts_of j.mode < 6 = omega (arith, c.puts-puts.ensures, c.if-puts-ge-LIMIT.false) in
+    let now = c.put.ensures.pages ∙ ap (λ r. cond (is_ok r) (remembered c.in_ok-page.page c.args.v.now j.group) j.group) c.unwrap.ensures ∙ ap (λ p. remembered p c.args.v.now j.group) c.in_ok-page.ensures.0 in
+    record { whole = rw c.puts-puts.ensures (put_call d.powered d.blocks j.mode j.group c.put.new.self c.args.n c.args.v.now ok j.whole h few c.told-v now).1 }
 
 pub returns : goal.returns
 returns g c =
     let j = c.args.self.now in
     let d = g.D.Disk.means j.disk in
-    let ok = stands_open d.blocks (group_of j) j.puts d.powered j.mode (answer_ok _ _ (c.in_ok-check_phase.ensures ∙ ap (λ x. answer (phase_bar needs.Open x 1)) c.standing.ensures)) in
-    let h : c.args.n < cells_of d.blocks = omega (arith, c.cells.ensures, c.if-n-cells.false) in
-    let ws = group_of j in
-    let pages = j.group.pages in
-    let k = λ (w : wholly g.D.Disk.means j).
-    let o = opened_at d.powered d.blocks j.mode ws j.puts ok w in
-    let some : vec_len pages < 6 = omega (arith, o.few, length_entries (vec_items pages), pages.ok.0) in
-    let now = c.put.ensures.pages ∙ ap (λ t. cond t (remembered c.args.n c.args.v.now ws) ws) (c.put.ensures.room some) in
-    put_call d.powered d.blocks j.mode ws _ j.puts c.args.n c.args.v.now ok w h (omega arith) c.told-v now in
-    record { outcome = λ w. (k w).0; stays = λ w. (k w).1; disk = refl }
+    let ok = stands_open d.blocks j.group d.powered j.mode (admitted d j.mode j.group _ c.standing.ensures needs.Open _ c.in_ok-check_phase.ensures) in
+    let h : c.args.n < cells_of d.blocks = c.in_ok-page.ensures.1 in
+    let few : puts_of j.mode < 6 = omega (arith, c.puts-puts.ensures, c.if-puts-ge-LIMIT.false) in
+    let now = c.put.ensures.pages ∙ ap (λ r. cond (is_ok r) (remembered c.in_ok-page.page c.args.v.now j.group) j.group) c.unwrap.ensures ∙ ap (λ p. remembered p c.args.v.now j.group) c.in_ok-page.ensures.0 in
+    record { outcome = rw c.puts-puts.ensures (put_call d.powered d.blocks j.mode j.group c.put.new.self c.args.n c.args.v.now ok j.whole h few c.told-v now).0; disk = refl }
