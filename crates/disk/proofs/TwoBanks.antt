@@ -1,11 +1,12 @@
 -- Two banks that make a disk: where its blocks lie, and what is left after one of the banks is written over.
-use Rattle.std.proofs.Common.{◌≡◌, ◌≢◌, ℕ, ◌+◌, ◌*◌, ◌/◌, ◌%◌, ◌<◌, ◌≤◌, List, [], map, length, take, drop, get_or, set, None, Vec, Global, vec_len, vec_items, sym, ap, ◌∙◌, ⊎_elim, arith}
+use Rattle.std.proofs.Common.{◌≡◌, ◌≢◌, ℕ, ◌+◌, ◌*◌, ◌/◌, ◌%◌, ◌<◌, ◌≤◌, List, [], map, length, take, drop, get_or, set, None, cond, Vec, Global, vec_len, vec_items, sym, ap, ◌∙◌, ⊎_elim, arith}
 use Rattle.std.proofs.lemmas.Bool.{cases_eq}
 use Rattle.std.proofs.lemmas.List.{map-set, get_or-map, get_or-set_same, get_or-set_other, length-map}
 use Rattle.disk.specs.Layout.{inverted, banks_of, bank, banked}
 use Rattle.disk.specs.Sizes.{bank_refusal}
 use Rattle.disk.specs.Blocks.{both, over}
-use Rattle.disk.specs.Banks.{length_banks, even_block, odd_block, even_write, odd_write, sized_banks}
+use Rattle.std.specs.Prelude.{◌==◌}
+use Rattle.disk.specs.Banks.{length_banks, bank_block, even_write, odd_write, sized_banks}
 
 -- what two banks owe so that they make a disk
 abbrev pub Fit : List (Vec ℕ Global) → Type 0
@@ -55,11 +56,8 @@ module _ (ms : List (Vec ℕ Global)) (n : ℕ) (fit : Fit ms) (inside : n < len
 
   pub read_banked : inverted (take 256 (drop (256 * (n / 2)) (bank ms (n % 2)))) ≡ get_or (banked ms) n []
   read_banked =
-      let w = within in
-      ⊎_elim
-      (λ (e : n % 2 ≡ 0). rw e (even_block (length (bank ms 0) / 256) n (bank ms 0) (bank ms 1) e w.0))
-      (λ (o : n % 2 ≡ 0 → ⊥). let e : n % 2 ≡ 1 = omega arith in rw e (odd_block (length (bank ms 0) / 256) n (bank ms 0) (bank ms 1) o w.0))
-      (cases_eq (n % 2) 0)
+      let chosen : bank ms (n % 2) ≡ cond (n % 2 == 0) (bank ms 0) (bank ms 1) = ⊎_elim (λ (e : n % 2 ≡ 0). rw e) (λ (o : n % 2 ≡ 0 → ⊥). let e : n % 2 ≡ 1 = omega arith in rw e) (cases_eq (n % 2) 0) in
+      bank_block (length (bank ms 0) / 256) n (bank ms 0) (bank ms 1) (bank ms (n % 2)) chosen within.0
 
   module _ (two : length ms ≡ 2) (x : Vec ℕ Global) (v : List ℕ) (long : length v ≡ 256) where
     set_even : n % 2 ≡ 0 → vec_items x ≡ over (256 * (n / 2)) (inverted v) (bank ms 0) → length (vec_items x) ≡ length (bank ms 0) → banked (set ms 0 x) ≡ set (banked ms) n v

@@ -1,9 +1,10 @@
 -- The blocks of two banks: how many, which bytes each is, and what a write to one of them leaves.
-use Rattle.std.specs.Prelude.{◌≡◌, ℕ, zero, suc, ◌+◌, ◌*◌, ◌/◌, ◌%◌, ◌<◌, ◌≤◌, Bool, None, List, [], ◌∷◌, ◌++◌, length, take, drop, replicate, ◌≢◌, bit_xor, slice_index_or, slice_set, refl}
-use Rattle.std.proofs.Common.{sym, ap, ◌∙◌, arith}
+use Rattle.std.specs.Prelude.{◌≡◌, ℕ, zero, suc, ◌+◌, ◌*◌, ◌/◌, ◌%◌, ◌<◌, ◌≤◌, cond, Bool, None, List, [], ◌∷◌, ◌++◌, length, take, drop, replicate, ◌==◌, ◌≢◌, bit_xor, slice_index_or, slice_set, refl}
+use Rattle.std.proofs.Common.{sym, ap, ◌∙◌, ⊎_elim, arith}
 use Rattle.std.specs.Int.Bits.{xor_assoc, xor_self, xor_zero_r}
 use Rattle.std.proofs.lemmas.List.{map-append, take-map, drop-map, length-map}
 use Rattle.std.proofs.lemmas.Bool.Decides.{nat_tests}
+use Rattle.std.proofs.lemmas.Bool.{cases_eq}
 use Rattle.disk.specs.Device.{Each, Formed}
 use Rattle.disk.specs.Layout.{blocks_of, inverted, alternated, banks_of, device}
 use Rattle.disk.specs.Sizes.{bank_refusal}
@@ -121,6 +122,14 @@ pub odd_block : (h n : ℕ) (f s : List ℕ) → (n % 2 ≢ 0) → n < 2 * h →
 odd_block h n f s e l =
     inverted_part (256 * (n / 2)) s ∙ sym (getD_blocks h (n / 2) (inverted s) (omega arith))
     ∙ sym (getD_odd (n / 2) n (blocks_of h (inverted f)) (blocks_of h (inverted s)) [] (omega arith) (same_count h (inverted f) (inverted s)))
+
+-- block n, read from the bank that its parity chooses
+pub bank_block : (h n : ℕ) (f s m : List ℕ) → m ≡ cond (n % 2 == 0) f s → n < 2 * h → inverted (take 256 (drop (256 * (n / 2)) m)) ≡ slice_index_or (banks_of h f s) n []
+bank_block h n f s m e l =
+    ⊎_elim
+    (λ (even : n % 2 ≡ 0). let q : m ≡ f = grind (arith, nat_tests) in ap (λ x. inverted (take 256 (drop (256 * (n / 2)) x))) q ∙ even_block h n f s even l)
+    (λ (odd : n % 2 ≡ 0 → ⊥). let q : m ≡ s = grind (arith, nat_tests) in ap (λ x. inverted (take 256 (drop (256 * (n / 2)) x))) q ∙ odd_block h n f s odd l)
+    (cases_eq (n % 2) 0)
 
 -- a bank with block k written over
 one_bank : (h k : ℕ) (m v : List ℕ) → k < h → length m ≡ 256 * h → length v ≡ 256

@@ -65,7 +65,7 @@ impl MemoryDisk<BankedMemory> {
         ensures { Made (first_of (count_refusal blocks) (odd_refusal blocks))
             (λ d. supplied (banked d.memory.banks) d.supply.left ≡ device (replicate blocks (replicate 256 0)) 0 true) result }
     {
-        check_count(blocks as u64)?;
+        check_count(u64::from(blocks))?;
         check_even(blocks)?;
         let len = 128 * blocks as usize;
         let first = vec![in heap; 0xffu8; len]?;

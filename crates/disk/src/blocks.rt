@@ -11,7 +11,7 @@ pub(crate) fn load(memory: &[u8], k: u32, out: &mut [u8; 256])
     out.copy_from_slice(&memory[at..at + 256]);
 }
 
-// A `Vec`, and no slice: what is behind an element is not lent out of a struct with a ghost field.
+// A slice was tried in place of the `Vec`: what is behind an element is not lent out of a struct with a ghost field.
 #[tactic(auto, using(std::proofs::lemmas::List::with_items_is, crate::specs::Blocks::put_over, crate::specs::Blocks::length_over))]
 pub(crate) fn store(memory: &mut Vec<u8>, k: u32, block: &[u8; 256])
     requires { 256 * k + 256 ≤ vec_len memory.old }

@@ -28,7 +28,7 @@ pub trait Memory {
     ghost formed: { (m : Self) (charge : ℕ) (powered : Bool) → Formed (device (blocks m) charge powered) };
 }
 
-// A disk whose blocks stand in that memory.
+// A disk whose blocks stand in that memory. Nothing prints or compares a whole disk, so it is Drop alone, as the memories are.
 #[derive(Drop)]
 pub struct MemoryDisk<M> {
     pub(crate) memory: M,
@@ -36,7 +36,7 @@ pub struct MemoryDisk<M> {
 }
 
 // Memory that makes no disk, and why.
-#[derive(Drop)]
+#[derive(Debug, Drop)]
 pub struct Rejected<M> {
     pub refusal: Refusal,
     pub memory: M,

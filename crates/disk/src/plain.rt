@@ -57,7 +57,7 @@ impl MemoryDisk<PlainMemory> {
         ensures { Made (count_refusal blocks)
             (λ d. supplied (blocks_in d.memory.bytes) d.supply.left ≡ device (replicate blocks (replicate 256 0)) 0 true) result }
     {
-        check_count(blocks as u64)?;
+        check_count(u64::from(blocks))?;
         let bytes = vec![in heap; 0u8; 256 * blocks as usize]?;
         Ok(MemoryDisk::over(PlainMemory { bytes }))
     }

@@ -61,7 +61,7 @@ pub(crate) fn check_count(count: u64) -> Result<(), Refusal>
 pub(crate) fn check_even(count: u32) -> Result<(), Refusal>
     ensures { result ≡ answer (odd_refusal count) }
 {
-    fit(count % 2 == 0, count as u64 / 2 * 256)
+    fit(count % 2 == 0, u64::from(count) / 2 * 256)
 }
 
 // A memory of that length makes a disk.

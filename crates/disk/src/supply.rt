@@ -4,7 +4,7 @@ ghost use Rattle.disk.specs.Gate.{charged, admitted, spent, left_after};
 
 use refusal::{Reason, Refusal};
 
-#[derive(Clone, Copy)]
+#[derive(Clone, Copy, PartialEq, Eq, Debug)]
 pub struct Supply {
     // the writes left before power goes, and none where the disk is dark
     left: Option<u32>,
@@ -44,7 +44,7 @@ impl Supply {
     {
         let charge = self.live()?;
         if n >= count {
-            return Err(Refusal::new(Reason::OutOfRange, 0, n as u64));
+            return Err(Refusal::new(Reason::OutOfRange, 0, u64::from(n)));
         }
         Ok(charge)
     }

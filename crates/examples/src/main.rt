@@ -80,7 +80,7 @@ const NO_CODES: [&[u8]; 8] = [
 ];
 
 // Bytes in hex.
-#[derive(Clone, Copy)]
+#[derive(Clone, Copy, PartialEq, Eq, Debug)]
 struct Hex<'a>(&'a [u8]);
 
 impl fmt::Display for Hex<'_> {
@@ -93,7 +93,7 @@ impl fmt::Display for Hex<'_> {
 }
 
 // How many lines are the same as the table.
-#[derive(Clone, Copy, Default)]
+#[derive(Clone, Copy, PartialEq, Eq, Debug, Default)]
 struct Tally {
     same: u32,
     different: u32,

@@ -93,7 +93,7 @@ impl<D: Disk> Journal<D> {
 
     // The disk itself knows whether it is dark.
     fn standing(&self) -> Phase
-        ensures { result ≡ phase_of (meaning (D.means self.now.disk) self.now.mode self.now.group).stage }
+        ensures { result ≡ phase_of (⟦<Journal<D> as Store>⟧.means self.now).stage }
     {
         match (self.disk.is_powered(), self.mode) {
             (false, _) => Phase::Dark,
@@ -126,7 +126,7 @@ impl<D: Disk> Store for Journal<D> {
     }
 
     fn begin(&mut self) -> Result<Token, Refusal>
-        ensures outcome { Outcome call.begin (meaning (D.means self.old.disk) self.old.mode self.old.group) result (meaning (D.means self.new.disk) self.new.mode self.new.group) }
+        ensures outcome { Outcome call.begin (⟦<Journal<D> as Store>⟧.means self.old) result (⟦<Journal<D> as Store>⟧.means self.new) }
         ensures disk { D.means self.new.disk ≡ D.means self.old.disk }
     {
         check_phase(self.standing(), Needs::Idle, LAYER)?;
@@ -148,7 +148,7 @@ impl<D: Disk> Store for Journal<D> {
     }
 
     fn put(&mut self, n: u32, v: &[u8; 256]) -> Result<(), Refusal>
-        ensures outcome { Outcome (call.put n v.now) (meaning (D.means self.old.disk) self.old.mode self.old.group) result (meaning (D.means self.new.disk) self.new.mode self.new.group) }
+        ensures outcome { Outcome (call.put n v.now) (⟦<Journal<D> as Store>⟧.means self.old) result (⟦<Journal<D> as Store>⟧.means self.new) }
         ensures disk { D.means self.new.disk ≡ D.means self.old.disk }
     {
         check_phase(self.standing(), Needs::Open, LAYER)?;
@@ -164,7 +164,7 @@ impl<D: Disk> Store for Journal<D> {
     }
 
     fn commit(&mut self, token: Token) -> Result<(), Refusal>
-        ensures outcome { Outcome call.commit (meaning (D.means self.old.disk) self.old.mode self.old.group) result (meaning (D.means self.new.disk) self.new.mode self.new.group) }
+        ensures outcome { Outcome call.commit (⟦<Journal<D> as Store>⟧.means self.old) result (⟦<Journal<D> as Store>⟧.means self.new) }
         ensures disk { D.means self.new.disk ≡ committed (D.means self.old.disk).powered self.old.mode self.old.group (D.means self.old.disk) }
         ensures by_charge { Lawfully (D.means self.old.disk).powered self.old.mode self.old.group (D.means self.old.disk) result (D.means self.new.disk) }
     {
@@ -176,7 +176,7 @@ impl<D: Disk> Store for Journal<D> {
     }
 
     fn abort(&mut self, token: Token) -> Result<(), Refusal>
-        ensures outcome { Outcome call.abort (meaning (D.means self.old.disk) self.old.mode self.old.group) result (meaning (D.means self.new.disk) self.new.mode self.new.group) }
+        ensures outcome { Outcome call.abort (⟦<Journal<D> as Store>⟧.means self.old) result (⟦<Journal<D> as Store>⟧.means self.new) }
         ensures disk { D.means self.new.disk ≡ D.means self.old.disk }
     {
         token.retire();
@@ -186,7 +186,7 @@ impl<D: Disk> Store for Journal<D> {
     }
 
     fn power(&mut self, charge: u32)
-        ensures outcome { meaning (D.means self.new.disk) self.new.mode self.new.group ≡ next (call.power charge) (meaning (D.means self.old.disk) self.old.mode self.old.group) }
+        ensures outcome { ⟦<Journal<D> as Store>⟧.means self.new ≡ next (call.power charge) (⟦<Journal<D> as Store>⟧.means self.old) }
         ensures disk { D.means self.new.disk ≡ powered_up charge (D.means self.old.disk) }
     {
         self.disk.power(charge);
@@ -194,7 +194,7 @@ impl<D: Disk> Store for Journal<D> {
     }
 
     fn recover(&mut self) -> Result<(), Refusal>
-        ensures outcome { Outcome call.recover (meaning (D.means self.old.disk) self.old.mode self.old.group) result (meaning (D.means self.new.disk) self.new.mode self.new.group) }
+        ensures outcome { Outcome call.recover (⟦<Journal<D> as Store>⟧.means self.old) result (⟦<Journal<D> as Store>⟧.means self.new) }
         ensures disk { D.means self.new.disk ≡ recovered (D.means self.old.disk).powered self.old.mode (D.means self.old.disk) }
         ensures exact { Exactly (cells_of (D.means self.old.disk).blocks) }
     {

@@ -11,14 +11,14 @@ use std::marker::Model;
 
 const MOST: usize = 6;
 
-#[derive(Clone, Copy)]
+#[derive(Clone, Copy, PartialEq, Eq, Debug)]
 pub struct Pending {
     // at most 4,089 pages, so that the number of a page's block cannot wrap
     pub page: u16,
     pub bytes: [u8; 256],
 }
 
-// Its memory is taken when it is made: no later call can run out of it.
+// Its memory is taken when it is made: no later call can run out of it. No map: the order of first puts is that of the writes.
 #[derive(Drop)]
 pub struct Group {
     pub(crate) pages: Vec<Pending>,

@@ -23,6 +23,7 @@ pub enum Mode {
     Open { puts: u32 },
 }
 
+// Nothing prints or compares a disk or a group, so it is Drop alone, as its group is.
 #[derive(Drop)]
 pub struct Journal<D: Disk> {
     pub(crate) disk: D,

@@ -58,10 +58,8 @@ fn are_slots(bytes: &[u8], records: u8) -> bool
 pub fn check_table(bytes: &[u8; 64], slots: u8, records: u8) -> bool
     ensures { result ≡ table_ok slots records bytes.now }
 {
-    match bytes.split_at_checked(usize::from(slots)) {
-        Some((front, rest)) => are_slots(front, records) && only_zeros(rest),
-        None => false,
-    }
+    let parts = bytes.split_at_checked(usize::from(slots));
+    parts.is_some_and(|(front, rest)| are_slots(front, records) && only_zeros(rest))
 }
 
 // The slot of byte `t`.
@@ -79,7 +77,7 @@ pub fn set_slot(bytes: &mut [u8; 64], t: u8, slot: SlotState)
     ensures value { bytes.new ≡ slice_set bytes.old t (min (slot_byte slot) 255) }
     ensures kept { Kept t slot bytes.old bytes.new }
 {
-    // no `get_mut`: a proof knows no byte of an array after a write through it
+    // `get_mut` was tried: a proof knows no byte of an array after a write through it
     let at = usize::from(t);
     if at < bytes.len() {
         bytes[at] = u8::from(slot);

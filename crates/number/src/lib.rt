@@ -40,7 +40,7 @@ fn read_at_most(bytes: &[u8], left: u8) -> Option<(u32, &[u8])>
 }
 
 // What a byte of a number says.
-#[derive(Clone, Copy)]
+#[derive(Clone, Copy, PartialEq, Eq, Debug)]
 enum Group {
     // the seven bits that are the highest
     Last(u8),
@@ -263,6 +263,7 @@ fn finish_code(kind: Kind, first: u32, bytes: &[u8]) -> Option<(Code, &[u8])>
 }
 
 // Writes the code into `out` from `at` on, and says where it ends; None, and `out` unchanged, where there is no room.
+// `out` and `at` stay two, as in `write_number`.
 pub fn write_code(code: Code, out: &mut [u8], at: usize) -> Option<usize>
     ensures { Written (code_bytes code) at out.old out.new result }
 {

@@ -151,7 +151,8 @@ fn run_commit<S: Store>(store: &mut S, case: Case) -> Result<End, Fault>
     Ok(End { answer, stands })
 }
 
-// Commits and recovers with that charge and, where power cuts the recovery, recovers again with enough. Answers whether it was cut.
+// Commits and recovers with that charge and, where power cuts the recovery, recovers again with enough.
+// Answers whether it was cut: a bool, since an enum would only rename yes and no.
 fn recover_twice<S: Store>(store: &mut S, token: Token, charge: u32) -> Result<bool, Refusal>
     ensures { phase_of (S.means store.old).stage ≡ Open → OnOk result ((S.means store.new).stage ≡ idle) }
 {
@@ -165,6 +166,7 @@ fn recover_twice<S: Store>(store: &mut S, token: Token, charge: u32) -> Result<b
     }
 }
 
+// Not one function with `run_commit`: a step that is handed in would need its promise written out once more.
 fn run_recovery<S: Store>(store: &mut S, case: Case, charge: u32) -> Result<Recovery, Fault>
     ensures { OnOk result ((S.means store.new).stage ≡ idle) }
 {

@@ -3,18 +3,19 @@ ghost use Rattle.std.specs.Prelude.{◌≡◌, ℕ, ◌-◌, ◌<◌, ◌≤◌,
 ghost use Rattle.place.specs.Writes.{shown};
 ghost use Rattle.level.specs.Turns.{barred_below, table_of, Turned};
 ghost use Rattle.level.specs.SlotTable.{table_ok};
+ghost use Rattle.level.specs.Records.{record_place};
 ghost use Rattle.tally.specs.Codes.{Recordable};
 ghost use Rattle.tally.specs.TallyPlaces.{Roomy, undo_at};
 ghost use Rattle.tally.specs.TallyTurns.{counter_of, performs, Acted, apply_act, loaded, takes_back, undo_turn};
 ghost use Rattle.tally.specs.Entries.{tally_plan, OfTally, EntryOf};
 
-use crate::counters::Counter;
 use crate::entry::Entry;
-use crate::kept::{add_to, take_from, value_of};
-use crate::{RECORDS, SLOTS, TallyAnswer, TallyOp, undo_of};
-use level::records::read_record;
+use crate::kept::{read_value, write_add, write_undo};
+use crate::{COUNTERS, RECORDS, SLOTS, TallyAnswer, TallyOp, undo_of};
+use level::records::{read_record, record_place};
 use level::running::RunningSlot;
-use level::turns::Plan;
+use level::slots::SlotState;
+use level::turns::{Located, Plan};
 use place::read_place;
 use refusal::{Reason, Refusal};
 use store::Store;
@@ -31,6 +32,24 @@ fn plan(layer: u32) -> Plan
 }
 
 impl Entry {
+    // Record `index` of the slot.
+    fn at(found: &RunningSlot, index: u8) -> Entry
+        requires plan { OfTally found.now.plan }
+        requires inside { index < 16 }
+        ensures { EntryOf found.now index result }
+    {
+        let table = found.table;
+        Entry {
+            layer: found.plan.layer,
+            found: Located {
+                table,
+                number: found.number,
+                slot: SlotState::Running(found.records),
+            },
+            index,
+        }
+    }
+
     // The record that an operation on the slot writes next; None where the slot has no room for one more.
     fn next(found: &RunningSlot) -> Option<Entry>
         requires { OfTally found.now.plan }
@@ -39,13 +58,7 @@ impl Entry {
         if found.records >= RECORDS {
             return None;
         }
-        let table = found.table;
-        Some(Entry {
-            layer: found.plan.layer,
-            table,
-            slot: found.number,
-            index: found.records,
-        })
+        Some(Entry::at(found, found.records))
     }
 
     // The newest record of the slot; None where it has none.
@@ -54,31 +67,27 @@ impl Entry {
         ensures { MatchOption result (found.now.records ≡ 0) (λ e. (0 < found.now.records) × EntryOf found.now (found.now.records - 1) e) }
     {
         let index = found.records.checked_sub(1)?;
-        let table = found.table;
-        Some(Entry {
-            layer: found.plan.layer,
-            table,
-            slot: found.number,
-            index,
-        })
+        Some(Entry::at(found, index))
+    }
+
+    // Its place.
+    fn place(&self) -> u32
+        ensures { result ≡ record_place 16 self.now.found.number self.now.index }
+    {
+        record_place(RECORDS, self.found.number, self.index)
     }
 }
 
 // An operation on a running slot that has room for one record more.
-fn perform<S: Store>(
-    store: &mut S,
-    entry: &Entry,
-    counter: Counter,
-    op: TallyOp,
-) -> Result<TallyAnswer, Refusal>
-    ensures acted { Roomy (S.means store.old) → entry.now.table ≡ slice_index_or (shown (S.means store.old)) 0 [] → counter.number ≡ counter_of op → Acted (performs op entry.now.slot entry.now.index (S.means store.old)) (S.means store.old) result (S.means store.new) }
+fn perform<S: Store>(store: &mut S, entry: &Entry, op: TallyOp) -> Result<TallyAnswer, Refusal>
+    ensures acted { Roomy (S.means store.old) → entry.now.found.table ≡ slice_index_or (shown (S.means store.old)) 0 [] → counter_of op < 32 → Acted (performs op entry.now.found.number entry.now.index (S.means store.old)) (S.means store.old) result (S.means store.new) }
 {
     match op {
-        TallyOp::Add { amount, .. } => {
-            add_to(store, entry, counter, amount)?;
+        TallyOp::Add { counter, amount } => {
+            write_add(store, &entry.found, entry.index, counter, amount)?;
             Ok(TallyAnswer::Added)
         }
-        TallyOp::Read { .. } => Ok(TallyAnswer::Value(value_of(store, counter)?)),
+        TallyOp::Read { counter } => Ok(TallyAnswer::Value(read_value(store, counter)?)),
     }
 }
 
@@ -94,18 +103,16 @@ pub fn apply_op<S: Store>(
 {
     let found = plan(layer).find_running(store, t)?;
     let number = op.counter();
-    let counter = Counter::new(number).ok_or(Refusal::new(
-        Reason::OutOfRange,
-        layer,
-        u64::from(number),
-    ))?;
+    if number >= COUNTERS {
+        return Err(Refusal::new(Reason::OutOfRange, layer, u64::from(number)));
+    }
     let entry = Entry::next(&found).ok_or(Refusal::new(Reason::LimitReached, layer, u64::from(t)))?;
-    perform(store, &entry, counter, op)
+    perform(store, &entry, op)
 }
 
 // Reads an undo record.
 fn load_undo<S: Store>(store: &S, entry: &Entry) -> Result<TallyOp, Refusal>
-    ensures loaded { Roomy (S.means store.now) → result ≡ loaded entry.now.layer entry.now.slot entry.now.index (undo_at (shown (S.means store.now)) entry.now.slot entry.now.index) }
+    ensures loaded { Roomy (S.means store.now) → result ≡ loaded entry.now.layer entry.now.found.number entry.now.index (undo_at (shown (S.means store.now)) entry.now.found.number entry.now.index) }
     ensures recordable { IfOk result Recordable }
 {
     let mut bytes = [0; 64];
@@ -119,15 +126,12 @@ fn load_undo<S: Store>(store: &S, entry: &Entry) -> Result<TallyOp, Refusal>
 
 // Takes the newest record of a slot back.
 fn take_back<S: Store>(store: &mut S, entry: &Entry) -> Result<(), Refusal>
-    ensures turned { Roomy (S.means store.old) → entry.now.table ≡ slice_index_or (shown (S.means store.old)) 0 [] → Turned (takes_back entry.now.layer entry.now.slot entry.now.index (S.means store.old) (loaded entry.now.layer entry.now.slot entry.now.index (undo_at (shown (S.means store.old)) entry.now.slot entry.now.index))) (S.means store.old) result (S.means store.new) }
+    ensures turned { Roomy (S.means store.old) → entry.now.found.table ≡ slice_index_or (shown (S.means store.old)) 0 [] → Turned (takes_back entry.now.layer entry.now.found.number entry.now.index (S.means store.old) (loaded entry.now.layer entry.now.found.number entry.now.index (undo_at (shown (S.means store.old)) entry.now.found.number entry.now.index))) (S.means store.old) result (S.means store.new) }
 {
-    let damaged = Refusal::new(Reason::Damaged, entry.layer, u64::from(entry.place()));
     let TallyOp::Add { counter, amount } = load_undo(store, entry)? else {
-        return Err(damaged);
+        return Err(Refusal::new(Reason::Damaged, entry.layer, u64::from(entry.place())));
     };
-    // never refused: an undo is about one of the counters
-    let counter = Counter::new(counter).ok_or(damaged)?;
-    take_from(store, entry, counter, amount)
+    write_undo(store, &entry.found, entry.index, counter, amount)
 }
 
 // Applies the newest undo record of a slot and removes it.

@@ -9,7 +9,6 @@ ghost use Rattle.tally.specs.CounterBytes.{counter_at, written_at, CounterLaws};
 ghost use Rattle.tally.specs.TallyTurns.{counter_of};
 
 pub mod acts;
-pub mod counters;
 pub mod entry;
 pub mod kept;
 
@@ -107,6 +106,7 @@ pub fn write_counter(bytes: &mut [u8; 64], i: usize, value: u32) -> Option<()>
     if i >= PER_PLACE {
         return None;
     }
+    // `as_chunks_mut` was tried: a proof knows no byte of an array after a write through it
     let start = 4 * i;
     bytes[start..start + 4].copy_from_slice(&value.to_le_bytes());
     Some(())

@@ -1,6 +1,6 @@
 use Rattle.std.proofs.Common.{◌≡◌, ◌+◌, length, arith}
 use Rattle.number.specs.Leb.{leb}
-use Rattle.number.proofs.Written.{place, start, again, last_fits, part_long, inside, done}
+use Rattle.number.proofs.Written.{place, start, again, last_fits, part_long, done}
 use Rattle.number.proofs.write_number.Goals as goal
 use Rattle.number.proofs.write_number.Goals.{After-loop-byte}
 
@@ -17,9 +17,6 @@ front_long c = let long = part_long (place c.number_len-len.ensures c.if-not-has
 
 pub overflow_cast-out : goal.overflow_cast-out
 overflow_cast-out c = let fits = last_fits (omega (arith, front_long (goal.at.overflow_cast-out c).After-loop-byte)) c.loop-byte.invariant in omega arith
-
-pub bounds-out-end : goal.bounds-out-end
-bounds-out-end c = inside c.loop-byte.byte-items (place c.number_len-len.ensures c.if-not-has_room.ensures) (front_long (goal.at.bounds-out-end c).After-loop-byte)
 
 pub returns : goal.returns
 returns c =

@@ -1,7 +1,5 @@
 use Rattle.std.proofs.Common.{◌≤◌, length, arith}
-use Rattle.std.proofs.lemmas.Grind.{common_steps}
 use Rattle.std.proofs.lemmas.Result.{err_from_is_err_and}
-use Rattle.store.proofs.Clients.{begin_barred}
 use Rattle.place.proofs.Groups.{length_listed, begins, begin_fails, closes}
 use Rattle.place.proofs.write_group.Goals as goal
 
@@ -9,9 +7,6 @@ pub returns-in_err-token-clause-outcome : goal.returns-in_err-token-clause-outco
 returns-in_err-token-clause-outcome g c =
     let p = err_from_is_err_and c.from_residual.result c.from_residual.ensures.1 in
     λ r. rw (p.1, p.2) (begin_fails r.stage c.in_err-token.ensures.outcome)
-
-pub returns-in_err-token-clause-barred : goal.returns-in_err-token-clause-barred
-returns-in_err-token-clause-barred g c = λ e b. grind (arith, common_steps, begin_barred b c.in_err-token.ensures.outcome)
 
 pub returns-clause-outcome : goal.returns-clause-outcome
 returns-clause-outcome g c = λ r.

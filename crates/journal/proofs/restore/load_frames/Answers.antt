@@ -6,11 +6,8 @@ use Rattle.journal.specs.declared.group.Pending.{Pending}
 use Rattle.journal.specs.Names.{names}
 use Rattle.journal.specs.Entries.{entries}
 use Rattle.journal.specs.Layout.{framed}
-use Rattle.journal.proofs.Loading.{loading_none, loading_more, loading_all}
+use Rattle.journal.proofs.Loading.{loading_more, loading_all}
 use Rattle.journal.proofs.restore.load_frames.Goals as goal
-
-pub loop-turn-init : goal.loop-turn-init
-loop-turn-init g c = (refl, λ p. loading_none _ _)
 
 pub returns-in_err-read : goal.returns-in_err-read
 returns-in_err-read g c p =

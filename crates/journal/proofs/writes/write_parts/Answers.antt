@@ -1,6 +1,6 @@
 use Rattle.std.proofs.Common.{◌+◌, length, drop, sym, refl, ap, ◌∙◌}
 use Rattle.std.proofs.lemmas.Result.{err_from_is_err_and}
-use Rattle.std.proofs.lemmas.List.{take_all, nil_from_length}
+use Rattle.std.proofs.lemmas.List.{nil_from_length}
 use Rattle.std.proofs.lemmas.Bool.{eqb-true, eqb-false}
 use Rattle.disk.specs.Runs.{ran, ran_answer}
 use Rattle.disk.proofs.Runs.{Ran, as_run, ran_none, then_run, then_stop}
@@ -37,11 +37,3 @@ pub loop-part-preserved : goal.loop-part-preserved
 loop-part-preserved g c =
     let p : Ran _ _ _ _ = record { after = c.write_part.ensures.after; answer = sym c.in_ok-write_part.was ∙ c.write_part.ensures.answer } in
     as_run (one_more c.args.parts.now c.loop-part.part-index Frames c.args.group.now c.loop-part-test.true) (then_run c.loop-part.invariant refl p)
-
-pub returns : goal.returns
-returns g c =
-    let ws = c.args.group.now in
-    let ps = c.args.parts.now in
-    let all = ap (λ l. all_writes l ws) (take_all c.loop-part.part-index ps c.loop-part-test.false) in
-    let k = as_run (all ∙ some_writes ps ws (eqb-false (length ws) 0 (sym c.if-is_empty.ensures))) c.loop-part.invariant in
-    record { after = k.after; answer = k.answer }

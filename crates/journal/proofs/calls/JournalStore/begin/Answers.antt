@@ -2,8 +2,8 @@ use Rattle.std.proofs.lemmas.Result.{err_from_is_err_and}
 use Rattle.store.specs.Meaning.{phase_bar}
 use Rattle.store.specs.Meaning as call
 use Rattle.store.specs.declared.Needs.TheVariants as needs
-use Rattle.journal.specs.Stages.{refused_phase, first_begin, stands_idle, begun}
-use Rattle.journal.proofs.Admits.{denied, admitted}
+use Rattle.journal.specs.Stages.{first_begin, stands_idle, begun}
+use Rattle.journal.proofs.Admits.{admitted, turned_away}
 use Rattle.journal.proofs.calls.JournalStore.begin.Goals as goal
 
 pub returns-in_err-check_phase-clause-outcome : goal.returns-in_err-check_phase-clause-outcome
@@ -11,8 +11,7 @@ returns-in_err-check_phase-clause-outcome g c =
     let j = c.args.self.now in
     let d = g.D.Disk.means j.disk in
     let r = err_from_is_err_and c.from_residual.result c.from_residual.ensures.1 in
-    let said = denied d j.mode j.group _ c.standing.ensures needs.Idle _ c.in_err-check_phase.ensures in
-    rw (r.1, r.2) (refused_phase d.powered d.blocks j.mode j.group call.begin needs.Idle _ (first_begin _ _) said)
+    turned_away d j.mode j.group _ c.standing.ensures needs.Idle call.begin _ _ _ (first_begin _) r.1 r.2 c.in_err-check_phase.ensures
 
 pub returns-clause-outcome : goal.returns-clause-outcome
 returns-clause-outcome g c =

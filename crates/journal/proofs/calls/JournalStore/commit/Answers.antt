@@ -3,9 +3,9 @@ use Rattle.std.proofs.lemmas.Result.{err_from_is_err_and}
 use Rattle.store.specs.Meaning.{phase_bar}
 use Rattle.store.specs.Meaning as call
 use Rattle.store.specs.declared.Needs.TheVariants as needs
-use Rattle.journal.specs.Stages.{refused_phase, first_commit, answer_err}
+use Rattle.journal.specs.Stages.{first_commit, answer_err}
 use Rattle.journal.proofs.Commits.{commit_barred}
-use Rattle.journal.proofs.Admits.{denied, admitted}
+use Rattle.journal.proofs.Admits.{denied, admitted, turned_away}
 use Rattle.journal.proofs.Ended.{commits}
 use Rattle.journal.proofs.calls.JournalStore.commit.Goals as goal
 
@@ -16,7 +16,7 @@ returns-in_err-check_phase g c =
     let r = err_from_is_err_and c.from_residual.result c.from_residual.ensures.1 in
     let said = denied d j.mode j.group _ c.standing.ensures needs.Open _ c.in_err-check_phase.ensures in
     record {
-      outcome = rw (r.1, r.2) (refused_phase d.powered d.blocks j.mode j.group call.commit needs.Open _ (first_commit _ _) said);
+      outcome = turned_away d j.mode j.group _ c.standing.ensures needs.Open call.commit _ _ _ (first_commit _) r.1 r.2 c.in_err-check_phase.ensures;
       disk = (commit_barred d d.powered d.blocks j.mode j.group c.from_residual.result _ (answer_err _ _ said)).0;
       by_charge = (commit_barred d d.powered d.blocks j.mode j.group c.from_residual.result _ (answer_err _ _ said)).1;
     }

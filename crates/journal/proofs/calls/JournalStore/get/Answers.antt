@@ -6,8 +6,8 @@ use Rattle.store.specs.Meaning as call
 use Rattle.store.specs.declared.Needs.TheVariants as needs
 use Rattle.journal.specs.Layout.{cells_of}
 use Rattle.journal.specs.Meaning.{meaning, pended}
-use Rattle.journal.specs.Stages.{refused_phase, first_get, live_on, get_granted, get_beyond, get_filled, got_block, got_page}
-use Rattle.journal.proofs.Admits.{denied, admitted}
+use Rattle.journal.specs.Stages.{first_get, live_on, get_granted, get_beyond, get_filled, got_block, got_page}
+use Rattle.journal.proofs.Admits.{admitted, turned_away}
 use Rattle.journal.proofs.calls.JournalStore.get.Goals as goal
 
 pub returns-in_err-check_phase : goal.returns-in_err-check_phase
@@ -15,9 +15,8 @@ returns-in_err-check_phase g c =
     let j = c.args.self.now in
     let d = g.D.Disk.means j.disk in
     let r = err_from_is_err_and c.from_residual.result c.from_residual.ensures.1 in
-    let said = denied d j.mode j.group _ c.standing.ensures needs.Live _ c.in_err-check_phase.ensures in
     record {
-      outcome = rw (r.1, r.2) (refused_phase d.powered d.blocks j.mode j.group (call.get c.args.n) needs.Live _ (first_get _ _ _) said);
+      outcome = turned_away d j.mode j.group _ c.standing.ensures needs.Live (call.get c.args.n) _ _ _ (first_get _ _) r.1 r.2 c.in_err-check_phase.ensures;
       buffer = rw r.1 refl;
     }
 
