@@ -13,7 +13,7 @@ ghost use Rattle.journal.specs.declared.state.Mode.TheVariants.{Due};
 ghost use Rattle.journal.specs.Stages.{journal_formed};
 
 use crate::group::Group;
-use crate::restore::restore;
+use crate::restore::{pages_of, restore};
 use crate::state::{FIRST_PAGE, Journal, LAYER, LIMIT, Mode};
 use crate::writes::{COMMIT, write_parts};
 use disk::Disk;
@@ -58,7 +58,7 @@ impl<D: Disk> Journal<D> {
     fn cells(&self) -> u32
         ensures { result ≡ cells_of (D.means self.now.disk).blocks }
     {
-        self.disk.count() - FIRST_PAGE
+        pages_of(&self.disk)
     }
 
     // The page of that number, if there is one.

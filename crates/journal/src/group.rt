@@ -6,10 +6,12 @@ ghost use Rattle.journal.specs.Groups.{First, Absent, looked_up, remembered};
 ghost use Rattle.journal.specs.Record.{member};
 ghost use Rattle.journal.specs.Names.{names};
 
+use crate::state::LIMIT;
 use std::alloc::{AllocError, Global};
 use std::marker::Model;
 
-const MOST: usize = 6;
+// As many as a group has puts.
+const MOST: usize = LIMIT as usize;
 
 #[derive(Clone, Copy, PartialEq, Eq, Debug)]
 pub struct Pending {

@@ -2,7 +2,7 @@
 ghost use Rattle.std.specs.Prelude.{◌≡◌, true, Ok};
 ghost use Rattle.disk.specs.Runs.{ran};
 ghost use Rattle.journal.specs.Names.{names};
-ghost use Rattle.journal.specs.Layout.{framed, naming, recover_writes};
+ghost use Rattle.journal.specs.Layout.{cells_of, framed, naming, recover_writes};
 ghost use Rattle.journal.specs.Meaning.{recover_answer};
 
 use crate::group::Group;
@@ -22,6 +22,13 @@ fn load_frames<D: Disk>(disk: &D, group: &mut Group) -> Result<(), Refusal>
     Ok(())
 }
 
+// How many pages a disk has room for.
+pub fn pages_of<D: Disk>(disk: &D) -> u32
+    ensures { result ≡ cells_of (D.means disk.now).blocks }
+{
+    disk.count() - FIRST_PAGE
+}
+
 // Finishes the commit that power cut, if the record names any page.
 pub fn restore<D: Disk>(disk: &mut D, group: &mut Group) -> Result<(), Refusal>
     ensures after { (D.means disk.old).powered ≡ true → D.means disk.new ≡ ran (recover_writes (naming (D.means disk.old).blocks) (D.means disk.old).blocks) (D.means disk.old) }
@@ -29,7 +36,7 @@ pub fn restore<D: Disk>(disk: &mut D, group: &mut Group) -> Result<(), Refusal>
 {
     let mut block = [0; 256];
     disk.read(0, &mut block)?;
-    read_record(&block, disk.count() - FIRST_PAGE, group)?;
+    read_record(&block, pages_of(disk), group)?;
     load_frames(disk, group)?;
     // the last two parts of the commit that power cut
     write_parts(disk, &COMMIT[2..], group)

@@ -1,5 +1,5 @@
 -- The round trip of a code through the bytes of an undo record. Assumes nothing.
-use Rattle.std.proofs.Common.{◌≡◌, ℕ, ◌-◌, true, List, ◌++◌, length, drop, replicate, Some, None, Option, sym, ap, ◌∙◌, subst, ⊎_elim, arith}
+use Rattle.std.proofs.Common.{◌≡◌, ℕ, ◌-◌, true, List, ◌++◌, length, drop, replicate, Some, None, IsSome, Option, sym, refl, ap, ◌∙◌, subst, ⊎_elim, arith}
 use Rattle.std.proofs.lemmas.List.{length-append, length-replicate, drop-replicate}
 use Rattle.std.proofs.lemmas.Option.{none-some, same_Some}
 use Rattle.std.proofs.lemmas.Bool.{cond-true, cond-false, cases_Bool}
@@ -48,3 +48,8 @@ record_written c old new None e w = absurd (omega (arith, ap length e, length-re
 record_written c old new (Some end) e w =
     let is : end ≡ length (code_bytes c) = omega arith in
     w.2 ∙ ap (λ l. code_bytes c ++ drop end l) e ∙ ap (λ l. code_bytes c ++ l) (drop-replicate end 64 0) ∙ ap (λ n. code_bytes c ++ replicate (64 - n) 0) is
+
+-- so there is always room
+pub record_fits : (c : Code) (old new : List ℕ) (r : Option ℕ) → old ≡ replicate 64 0 → number.Written (code_bytes c) 0 old new r → IsSome r
+record_fits c old new (Some end) e w = refl
+record_fits c old new None e w = absurd (omega (arith, ap length e, length-replicate {A = ℕ} 64 0, code_short c))

@@ -23,7 +23,7 @@ barred_below layer m = phase_bar needs.Idle (phase_of m.stage) layer
 abbrev pub table_of : Content → List ℕ
 table_of m = slice_index_or (shown m) 0 []
 
--- an idle store whose first place is a table of n slots with at most k records each
+-- an idle store whose first place is a table of n slots with at most k records each; the store is the caller's, so no value of the level holds this fact
 pub record HasTable (n k : ℕ) (m : Content) : Type 0 where
   pub stage : m.stage ≡ idle
   pub first : 0 < length (shown m)
@@ -52,8 +52,8 @@ not_running layer n k t m = cond (nat_le n t) (Some (refusal reason.OutOfRange l
 -- slot t of a table of n slots runs, and was read whole
 pub record IsRunning (n k t : ℕ) (m : Content) (s : RunningSlot) : Type 0 where
   pub inside : t < n
-  pub table : s.table ≡ table_of m
-  pub number : s.number ≡ t
+  pub table : s.found.table ≡ table_of m
+  pub number : s.found.number ≡ t
   pub state : state_of n k t m ≡ Running s.records
 
 abbrev pub FoundRunning : ℕ → ℕ → ℕ → ℕ → Content → Result RunningSlot Refusal → Type 0

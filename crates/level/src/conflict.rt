@@ -30,6 +30,7 @@ fn mark_at(row: usize, column: usize) -> bool
     CONFLICTS[row][column]
 }
 
+// By the kinds' numbers: a match over pairs of kinds would write 49 of them out.
 fn kinds_conflict(a: Kind, b: Kind) -> bool
     ensures { result ≡ clash (kind_number a) (kind_number b) }
 {

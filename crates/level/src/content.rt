@@ -18,7 +18,7 @@ impl Fill for PlaceContent {
             PlaceContent::Bytes(bytes) => out.copy_from_slice(bytes),
             PlaceContent::Record(code) => {
                 out.fill(0);
-                let _ = write_code(*code, out, 0);
+                write_code(*code, out, 0).unwrap();
             }
         }
     }

@@ -90,11 +90,9 @@ impl Plan {
         let SlotState::Running(records) = found.slot else {
             return Err(Refusal::new(Reason::WrongState, self.layer, u64::from(t)));
         };
-        let table = found.table;
         Ok(RunningSlot {
             plan: self,
-            table,
-            number: found.number,
+            found,
             records,
         })
     }

@@ -15,6 +15,6 @@ pub record OfTally (p : Plan) : Type 0 where
 -- record k of the slot
 pub record EntryOf (found : RunningSlot) (k : ℕ) (e : Entry) : Type 0 where
   pub layer : e.layer ≡ found.plan.layer
-  pub table : e.found.table ≡ found.table
-  pub slot : e.found.number ≡ found.number
+  pub table : e.found.table ≡ found.found.table
+  pub slot : e.found.number ≡ found.found.number
   pub index : e.index ≡ k

@@ -14,8 +14,7 @@ use crate::kept::{read_value, write_add, write_undo};
 use crate::{COUNTERS, RECORDS, SLOTS, TallyAnswer, TallyOp, undo_of};
 use level::records::{read_record, record_place};
 use level::running::RunningSlot;
-use level::slots::SlotState;
-use level::turns::{Located, Plan};
+use level::turns::Plan;
 use place::read_place;
 use refusal::{Reason, Refusal};
 use store::Store;
@@ -38,14 +37,9 @@ impl Entry {
         requires inside { index < 16 }
         ensures { EntryOf found.now index result }
     {
-        let table = found.table;
         Entry {
             layer: found.plan.layer,
-            found: Located {
-                table,
-                number: found.number,
-                slot: SlotState::Running(found.records),
-            },
+            found: found.found,
             index,
         }
     }
@@ -129,7 +123,7 @@ fn take_back<S: Store>(store: &mut S, entry: &Entry) -> Result<(), Refusal>
     ensures turned { Roomy (S.means store.old) → entry.now.found.table ≡ slice_index_or (shown (S.means store.old)) 0 [] → Turned (takes_back entry.now.layer entry.now.found.number entry.now.index (S.means store.old) (loaded entry.now.layer entry.now.found.number entry.now.index (undo_at (shown (S.means store.old)) entry.now.found.number entry.now.index))) (S.means store.old) result (S.means store.new) }
 {
     let TallyOp::Add { counter, amount } = load_undo(store, entry)? else {
-        return Err(Refusal::new(Reason::Damaged, entry.layer, u64::from(entry.place())));
+        unreachable!();
     };
     write_undo(store, &entry.found, entry.index, counter, amount)
 }

@@ -24,7 +24,7 @@ use store::Store;
 fn place_of(counter: u32) -> u32
     ensures { result ≡ counter_place counter }
 {
-    129 + counter / 16
+    129 + counter / PER_PLACE as u32
 }
 
 // Which counter of its place it is.

@@ -9,7 +9,7 @@ ghost use Rattle.tally.specs.CounterBytes.{counter_at, written_at, CounterLaws};
 ghost use Rattle.tally.specs.TallyTurns.{counter_of};
 
 pub mod acts;
-pub mod entry;
+mod entry;
 pub mod kept;
 
 use number::Code;

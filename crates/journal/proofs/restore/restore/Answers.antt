@@ -25,7 +25,7 @@ returns-in_err-read_record g c =
     let r = err_from_is_err_and c.from_residual-in_err-read_record.result c.from_residual-in_err-read_record.ensures.1 in
     let k = λ (p : d.powered ≡ true).
     let got = read_done 0 d _ c.read.new.out c.read.result p h c.read.ensures.answer c.read.ensures.buffer in
-    restored_damaged (naming d.blocks) d (c.in_err-read_record.ensures ∙ ap (λ n. named (n - 7) c.read.new.out) c.count.ensures ∙ ap (named (length d.blocks - 7)) got.1) in
+    restored_damaged (naming d.blocks) d (c.in_err-read_record.ensures ∙ ap (λ n. named n c.read.new.out) c.pages_of.ensures ∙ ap (named (length d.blocks - 7)) got.1) in
     record { after = λ p. (k p).after; answer = λ p. r.1 ∙ ap Err r.2 ∙ (k p).answer }
 
 pub returns : goal.returns
@@ -37,5 +37,5 @@ returns g c =
     let got = read_done 0 d _ c.read.new.out c.read.result p h c.read.ensures.answer c.read.ensures.buffer in
     let run : Ran _ _ _ _ = record { after = c.write_parts.ensures.after; answer = c.write_parts.ensures.answer } in
     let same = ap (writes_of (part.Pages ∷ part.EmptyRecord ∷ [])) (c.load_frames.ensures p).1 in
-    restored (naming d.blocks) ps d _ _ (c.in_ok-read_record.ensures ∙ ap (λ n. named (n - 7) c.read.new.out) c.count.ensures ∙ ap (named (length d.blocks - 7)) got.1) (as_run same run) in
+    restored (naming d.blocks) ps d _ _ (c.in_ok-read_record.ensures ∙ ap (λ n. named n c.read.new.out) c.pages_of.ensures ∙ ap (named (length d.blocks - 7)) got.1) (as_run same run) in
     record { after = λ p. (k p).after; answer = λ p. (k p).answer }
