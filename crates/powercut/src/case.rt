@@ -60,6 +60,7 @@ pub struct Case {
 impl Case {
     pub fn new(pages: u32, charge: u32) -> Case
         requires { pages ≤ 6 }
+        ensures { (result.pages ≡ pages) × (result.charge ≡ charge) }
     {
         Case { pages, charge }
     }

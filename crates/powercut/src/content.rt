@@ -1,7 +1,7 @@
 // What the pages of a store hold: a version of each page's bytes, and which version stands.
 ghost use Rattle.std.specs.Prelude.{◌≡◌, OnOk};
 ghost use Rattle.refusal.specs.declared.Phase.TheVariants.{Open};
-ghost use Rattle.store.specs.Meaning.{phase_of};
+ghost use Rattle.store.specs.Meaning.{phase_of, idle};
 
 use refusal::Refusal;
 use std::fmt;
@@ -74,11 +74,9 @@ pub fn open_group<S: Store>(
 }
 
 // Writes that version of each page, by one group.
-pub fn write_group<S: Store>(
-    store: &mut S,
-    pages: &[u32],
-    version: Version,
-) -> Result<(), Refusal> {
+pub fn write_group<S: Store>(store: &mut S, pages: &[u32], version: Version) -> Result<(), Refusal>
+    ensures { OnOk result ((S.means store.new).stage ≡ idle) }
+{
     let token = open_group(store, pages, version)?;
     store.commit(token)
 }
