@@ -4,7 +4,7 @@ ghost use Rattle.disk.specs.Layout.{banks_of, bank, banked, device, supplied};
 ghost use Rattle.disk.specs.Sizes.{Made, first_of, count_refusal, odd_refusal, bank_refusal};
 ghost use Rattle.disk.specs.Banks.{formed_banks};
 
-use crate::blocks::{inverse, load, store};
+use crate::blocks::{inverse, invert, load, store};
 use crate::memory::{Memory, MemoryDisk, Rejected};
 use crate::sizes::{NewError, check_banks, check_count, check_even};
 use std::alloc::Global;
@@ -30,7 +30,7 @@ impl Memory for BankedMemory {
     #[tactic(auto, using(crate::proofs::TwoBanks::of_banks))]
     fn load(&self, n: u32, out: &mut [u8; 256]) {
         load(&self.banks[(n % 2) as usize], n / 2, out);
-        *out = inverse(out);
+        invert(out);
     }
 
     #[tactic(auto, using(crate::proofs::TwoBanks::of_banks))]
