@@ -1,14 +1,13 @@
 -- What the record read says of the recovery to make. Assumes nothing.
-use Rattle.std.proofs.Common.{◌≡◌, ℕ, ◌+◌, List, [], ◌∷◌, get_or, Some, None, Err, Option, Result, sym, ap, ◌∙◌}
+use Rattle.std.proofs.Common.{◌≡◌, ℕ, ◌+◌, List, [], ◌∷◌, drop, get_or, Some, None, Err, Option, Result, sym, ap, ◌∙◌}
 use Rattle.journal.proofs.Turns.{last_parts}
-use Rattle.journal.specs.declared.writes.Part.TheVariants as part
 use Rattle.refusal.specs.declared.Refusal.{Refusal}
 use Rattle.refusal.specs.declared.Reason.TheVariants.{Damaged}
 use Rattle.refusal.specs.Refusals.{refusal}
 use Rattle.disk.specs.Device.{Device}
 use Rattle.disk.specs.Runs.{ran, ran_answer}
 use Rattle.disk.proofs.Runs.{Ran, ran_none}
-use Rattle.journal.specs.Layout.{framed, recover_writes, writes_of}
+use Rattle.journal.specs.Layout.{framed, recover_writes, commit_order, writes_of}
 use Rattle.journal.specs.Meaning.{recover_answer}
 
 -- a recovery as it was made
@@ -20,7 +19,7 @@ pub restored_damaged : (o : Option (List ℕ)) (d : Device) → None ≡ o → R
 restored_damaged o d e =
     record { after = sym (ran_none d).0 ∙ ap (λ x. ran (recover_writes x d.blocks) d) e; answer = ap (λ x. recover_answer x d) e }
 
-pub restored : (o : Option (List ℕ)) (ps : List ℕ) (d after : Device) (r : Result Unit Refusal) → Some ps ≡ o → Ran (writes_of (part.Pages ∷ part.EmptyRecord ∷ []) (framed 0 ps d.blocks)) d after r → Restored o d after r
+pub restored : (o : Option (List ℕ)) (ps : List ℕ) (d after : Device) (r : Result Unit Refusal) → Some ps ≡ o → Ran (writes_of (drop 2 commit_order) (framed 0 ps d.blocks)) d after r → Restored o d after r
 restored o [] d after r e k =
     record { after = k.after ∙ ap (λ x. ran (recover_writes x d.blocks) d) e; answer = k.answer ∙ ap (λ x. recover_answer x d) e }
 restored o (p ∷ ps) d after r e k =

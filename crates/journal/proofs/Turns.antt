@@ -5,13 +5,12 @@ use Rattle.disk.specs.Runs.{Write}
 use Rattle.journal.specs.declared.writes.Side.{Side}
 use Rattle.journal.specs.declared.writes.Side.TheVariants.{Frames, Pages}
 use Rattle.journal.specs.declared.writes.Part.{Part}
-use Rattle.journal.specs.declared.writes.Part.TheVariants as part
 use Rattle.journal.specs.declared.group.Pending.{Pending}
 use Rattle.journal.specs.Entries.{entries}
 use Rattle.journal.specs.Names.{names}
 use Rattle.journal.specs.Record.{record_of, blank}
 use Rattle.journal.proofs.Seek.{length_entries, entries_at}
-use Rattle.journal.specs.Layout.{block_at, writes_to, frame_writes, page_writes, copy_writes, commit_writes, part_writes, all_writes, writes_of}
+use Rattle.journal.specs.Layout.{block_at, writes_to, frame_writes, page_writes, copy_writes, commit_writes, commit_order, part_writes, all_writes, writes_of}
 
 pub length_writes : (s : Side) (i : ℕ) (ws : List Write) → length (writes_to s i ws) ≡ length ws
 length_writes s i [] = refl
@@ -62,11 +61,11 @@ some_writes ps [] h = absurd (h refl)
 some_writes ps (w ∷ ws) h = refl
 
 -- what a commit and a recovery write
-pub all_parts : (ws : List Write) → writes_of (part.Frames ∷ part.Record ∷ part.Pages ∷ part.EmptyRecord ∷ []) ws ≡ commit_writes ws
+pub all_parts : (ws : List Write) → writes_of commit_order ws ≡ commit_writes ws
 all_parts [] = refl
 all_parts (w ∷ ws) = ap (λ l. l ++ (0, record_of (names (w ∷ ws))) ∷ (writes_to Pages 0 (w ∷ ws) ++ (0, blank) ∷ [])) (to_frames 0 (w ∷ ws)) ∙ ap (λ l. frame_writes 0 (w ∷ ws) ++ (0, record_of (names (w ∷ ws))) ∷ (l ++ (0, blank) ∷ [])) (to_pages 0 (w ∷ ws))
 
-pub last_parts : (w : Write) (ws : List Write) → writes_of (part.Pages ∷ part.EmptyRecord ∷ []) (w ∷ ws) ≡ copy_writes (w ∷ ws)
+pub last_parts : (w : Write) (ws : List Write) → writes_of (drop 2 commit_order) (w ∷ ws) ≡ copy_writes (w ∷ ws)
 last_parts w ws = ap (λ l. l ++ (0, blank) ∷ []) (to_pages 0 (w ∷ ws))
 
 -- the write of a page of a group

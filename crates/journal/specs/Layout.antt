@@ -61,7 +61,11 @@ abbrev pub writes_to : Side → ℕ → List Write → List Write
 writes_to s i [] = []
 writes_to s i (w ∷ ws) = (block_at s i w.0, w.1) ∷ writes_to s (i + 1) ws
 
--- the writes of each part of a commit
+-- the parts of a commit in their order: the frames, the record that names their pages, the pages, the empty record
+abbrev pub commit_order : List Part
+commit_order = part.Frames ∷ part.Record ∷ part.Pages ∷ part.EmptyRecord ∷ []
+
+-- the writes of each part
 abbrev pub part_writes : Part → List Write → List Write
 part_writes part.Frames ws = writes_to side.Frames 0 ws
 part_writes part.Record ws = (0, record_of (names ws)) ∷ []

@@ -15,7 +15,7 @@ ghost use Rattle.journal.specs.Stages.{journal_formed};
 use crate::group::Group;
 use crate::restore::{pages_of, restore};
 use crate::state::{FIRST_PAGE, Journal, LAYER, LIMIT, Mode};
-use crate::writes::{COMMIT, write_parts};
+use crate::writes::{commit_parts, write_parts};
 use disk::Disk;
 use refusal::{Phase, Reason, Refusal};
 use std::alloc::Global;
@@ -170,7 +170,7 @@ impl<D: Disk> Store for Journal<D> {
     {
         token.retire();
         check_phase(self.standing(), Needs::Open, LAYER)?;
-        write_parts(&mut self.disk, &COMMIT, &self.group)?;
+        write_parts(&mut self.disk, &commit_parts(), &self.group)?;
         self.mode = Mode::Idle;
         Ok(())
     }

@@ -8,7 +8,7 @@ ghost use Rattle.journal.specs.Meaning.{recover_answer};
 use crate::group::Group;
 use crate::record::read_record;
 use crate::state::FIRST_PAGE;
-use crate::writes::{COMMIT, write_parts};
+use crate::writes::{commit_parts, write_parts};
 use disk::Disk;
 use refusal::Refusal;
 
@@ -39,5 +39,5 @@ pub fn restore<D: Disk>(disk: &mut D, group: &mut Group) -> Result<(), Refusal>
     read_record(&block, pages_of(disk), group)?;
     load_frames(disk, group)?;
     // the last two parts of the commit that power cut
-    write_parts(disk, &COMMIT[2..], group)
+    write_parts(disk, &commit_parts()[2..], group)
 }

@@ -2,7 +2,7 @@
 ghost use Rattle.std.specs.Prelude.{◌≡◌, ◌<◌, [], ◌∷◌};
 ghost use Rattle.disk.specs.Runs.{ran, ran_answer};
 ghost use Rattle.journal.specs.Names.{names};
-ghost use Rattle.journal.specs.Layout.{block_at, writes_to, part_writes, writes_of};
+ghost use Rattle.journal.specs.Layout.{block_at, writes_to, commit_order, part_writes, writes_of};
 ghost use Rattle.journal.specs.Record.{record_of};
 
 use crate::group::Group;
@@ -29,7 +29,11 @@ pub enum Part {
 }
 
 // A commit's parts in their order. A recovery makes the last two once more.
-pub const COMMIT: [Part; 4] = [Part::Frames, Part::Record, Part::Pages, Part::EmptyRecord];
+pub fn commit_parts() -> [Part; 4]
+    ensures { result ≡ commit_order }
+{
+    [Part::Frames, Part::Record, Part::Pages, Part::EmptyRecord]
+}
 
 fn block(side: Side, turn: usize, page: u16) -> u32
     requires { turn < 6 }

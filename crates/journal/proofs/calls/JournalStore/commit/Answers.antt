@@ -26,7 +26,7 @@ invariant_of-self g c =
     let j = c.args.self.now in
     let d = g.D.Disk.means j.disk in
     let free = admitted d j.mode j.group _ c.standing.ensures needs.Open _ c.in_ok-check_phase.ensures in
-    let k = commits d j.mode j.group (g.met.D.Disk.formed j.disk) (g.D.Disk.means c.write_parts.new.disk) (Err c.in_err-write_parts.field-0.0) j.whole free c.write_parts.ensures.after (sym c.in_err-write_parts.was ∙ c.write_parts.ensures.answer) in
+    let k = commits d j.mode j.group (g.met.D.Disk.formed j.disk) (g.D.Disk.means c.write_parts.new.disk) (Err c.in_err-write_parts.field-0.0) j.whole free _ c.commit_parts.ensures c.write_parts.ensures.after (sym c.in_err-write_parts.was ∙ c.write_parts.ensures.answer) in
     record { whole = k.ends.stays }
 
 pub returns-in_err-write_parts : goal.returns-in_err-write_parts
@@ -34,7 +34,7 @@ returns-in_err-write_parts g c =
     let j = c.args.self.now in
     let d = g.D.Disk.means j.disk in
     let free = admitted d j.mode j.group _ c.standing.ensures needs.Open _ c.in_ok-check_phase.ensures in
-    let k = commits d j.mode j.group (g.met.D.Disk.formed j.disk) (g.D.Disk.means c.write_parts.new.disk) (Err c.in_err-write_parts.field-0.0) j.whole free c.write_parts.ensures.after (sym c.in_err-write_parts.was ∙ c.write_parts.ensures.answer) in
+    let k = commits d j.mode j.group (g.met.D.Disk.formed j.disk) (g.D.Disk.means c.write_parts.new.disk) (Err c.in_err-write_parts.field-0.0) j.whole free _ c.commit_parts.ensures c.write_parts.ensures.after (sym c.in_err-write_parts.was ∙ c.write_parts.ensures.answer) in
     let r = err_from_is_err_and c.from_residual-in_err-write_parts.result c.from_residual-in_err-write_parts.ensures.1 in
     record { outcome = rw (r.1, r.2) k.ends.outcome; disk = k.disk; by_charge = rw (r.1, r.2) k.by_charge }
 
@@ -43,7 +43,7 @@ invariant_of-self-2 g c =
     let j = c.args.self.now in
     let d = g.D.Disk.means j.disk in
     let free = admitted d j.mode j.group _ c.standing.ensures needs.Open _ c.in_ok-check_phase.ensures in
-    let k = commits d j.mode j.group (g.met.D.Disk.formed j.disk) (g.D.Disk.means c.write_parts.new.disk) (Ok tt) j.whole free c.write_parts.ensures.after (sym c.in_ok-write_parts.was ∙ c.write_parts.ensures.answer) in
+    let k = commits d j.mode j.group (g.met.D.Disk.formed j.disk) (g.D.Disk.means c.write_parts.new.disk) (Ok tt) j.whole free _ c.commit_parts.ensures c.write_parts.ensures.after (sym c.in_ok-write_parts.was ∙ c.write_parts.ensures.answer) in
     record { whole = k.ends.stays }
 
 pub returns : goal.returns
@@ -51,5 +51,5 @@ returns g c =
     let j = c.args.self.now in
     let d = g.D.Disk.means j.disk in
     let free = admitted d j.mode j.group _ c.standing.ensures needs.Open _ c.in_ok-check_phase.ensures in
-    let k = commits d j.mode j.group (g.met.D.Disk.formed j.disk) (g.D.Disk.means c.write_parts.new.disk) (Ok tt) j.whole free c.write_parts.ensures.after (sym c.in_ok-write_parts.was ∙ c.write_parts.ensures.answer) in
+    let k = commits d j.mode j.group (g.met.D.Disk.formed j.disk) (g.D.Disk.means c.write_parts.new.disk) (Ok tt) j.whole free _ c.commit_parts.ensures c.write_parts.ensures.after (sym c.in_ok-write_parts.was ∙ c.write_parts.ensures.answer) in
     record { outcome = k.ends.outcome; disk = k.disk; by_charge = k.by_charge }
