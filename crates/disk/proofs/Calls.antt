@@ -1,11 +1,15 @@
 -- What a call answers and leaves, by what the writes that are left let through.
-use Rattle.std.proofs.Common.{◌≡◌, ℕ, ◌<◌, List, [], length, get_or, set, Ok, Err, Option, arith}
+use Rattle.std.proofs.Common.{◌≡◌, ℕ, ◌<◌, List, [], length, get_or, set, Some, None, Ok, Err, Option, arith}
 use Rattle.std.proofs.lemmas.Bool.Decides.{nat_tests}
 use Rattle.std.proofs.lemmas.Result.{err_from_is_err_and}
 use Rattle.refusal.specs.declared.Refusal.{Refusal}
 use Rattle.disk.specs.Device.{answer, bar, filled, written, write_answer}
 use Rattle.disk.specs.Gate.{admitted, spent, left_after}
 use Rattle.disk.specs.Layout.{supplied}
+
+pub some_from_err : (o : Option Refusal) (e : Refusal) → Err e ≡ answer o → o ≡ Some e
+some_from_err None e h = cc
+some_from_err (Some f) e h = cc
 
 module _ (n count : ℕ) (b : List (List ℕ)) (left : Option ℕ) (many : count ≡ length b) where
   pub read_within : (c : ℕ) → Ok c ≡ admitted n count left → n < length b

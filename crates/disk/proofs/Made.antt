@@ -7,6 +7,7 @@ use Rattle.disk.specs.Layout.{blocks_of, banks_of}
 use Rattle.disk.specs.Sizes.{odd_refusal}
 use Rattle.disk.specs.Blocks.{both, blocks_replicate}
 use Rattle.disk.specs.Banks.{blank_banks}
+use Rattle.disk.proofs.Counts.{even_count}
 
 pub none_from_ok : (o : Option Refusal) → Ok tt ≡ answer o → o ≡ None
 none_from_ok None h = refl
@@ -23,7 +24,6 @@ pub zero_banks : (n len : ℕ) (f s : List ℕ) → odd_refusal n ≡ None → l
 zero_banks n len f s e l y z =
     let even : n % 2 ≡ 0 = grind (arith, nat_tests) in
     let h : 128 * n ≡ 256 * (n / 2) = omega arith in
-    let t : 2 * (n / 2) ≡ n = omega arith in
-    zero_halves (n / 2) len f s (l ∙ h) (rw h at y) (rw h at z) ∙ ap (λ i. replicate i (replicate 256 0)) t
+    zero_halves (n / 2) len f s (l ∙ h) (rw h at y) (rw h at z) ∙ ap (λ i. replicate i (replicate 256 0)) (even_count n e)
 
 pub ruleset of_zeros = (none_from_ok, zero_blocks, zero_banks)

@@ -1,3 +1,4 @@
+pub mod Mirror
 pub mod Recorded
 pub mod Tabled
 pub mod Live

@@ -1,5 +1,5 @@
 -- Slots through their bytes, and a slot table read, changed and new. Assumes nothing.
-use Rattle.std.proofs.Common.{◌≡◌, ℕ, zero, suc, ◌+◌, ◌-◌, ◌<◌, ◌≤◌, min, true, false, ◌&&◌, leb, List, [], ◌∷◌, map, length, get_or, take, drop, set, replicate, is_some, unwrap_or, Some, None, Option, sym, refl, ap, ◌∙◌, subst, arith}
+use Rattle.std.proofs.Common.{◌≡◌, ℕ, zero, suc, ◌+◌, ◌-◌, ◌<◌, ◌≤◌, min, Bool, true, false, ◌&&◌, leb, List, [], ◌∷◌, map, length, get_or, take, drop, set, replicate, is_some, unwrap_or, Some, None, Option, sym, refl, ap, ◌∙◌, subst, arith}
 use Rattle.std.proofs.lemmas.List.{length-set, length-take, map-set, drop-set-lt, get_or-map, get_or-take, take-replicate, drop-replicate}
 use Rattle.std.proofs.lemmas.List.Elements.{All-set, All-replicate}
 use Rattle.std.proofs.lemmas.List.Sums.{AllPass-from_list_all, list_all-from_AllPass}
@@ -92,6 +92,12 @@ slot_found n m i bs h ok =
     let at : get_or (take n bs) i 0 ≡ get_or bs i 0 = get_or-take n bs i 0 h in
     ap (slot_of m) (sym at) ∙ some_is Committed (slot_of m (get_or (take n bs) i 0)) (AllPass-from_list_all (λ b. is_some (slot_of m b)) (take n bs) p.slots i 0 long)
     ∙ ap Some (sym (get_or-map f (take n bs) i 0 Committed long))
+
+-- a table that is cut where its slots end
+pub table_cut : (t m : ℕ) (bs front rest : List ℕ) (r : Bool) → t ≤ length bs → front ≡ take t bs → rest ≡ drop t bs → r ≡ (all_slots m front && zeros rest) → r ≡ table_ok t m bs
+table_cut t m bs front rest r room f g e =
+    e ∙ ap (λ l. all_slots m l && zeros rest) f ∙ ap (λ l. all_slots m (take t bs) && zeros l) g
+    ∙ ap (λ x. x && (all_slots m (take t bs) && zeros (drop t bs))) (sym (le-leb t (length bs) room))
 
 slots_replicate : (m n : ℕ) → all_slots m (replicate n 0) ≡ true
 slots_replicate m n = list_all-from_AllPass _ _ (All-replicate (λ b. is_some (slot_of m b) ≡ true) n 0 refl)

@@ -1,6 +1,6 @@
 -- Reads of places, and groups of writes, from what the store's calls leave.
 use Rattle.std.proofs.Common.{◌≡◌, ℕ, zero, suc, ◌+◌, ◌-◌, ◌*◌, ◌/◌, ◌^◌, ◌<◌, ◌≤◌, min, ◌⊎◌, List, [], ◌∷◌, ◌++◌, length, get_or, take, drop, set, Ok, Err, Result, sym, refl, ap, ◌∙◌, subst, inl, inr, ⊎_elim, div-lt_iff_lt-mul, arith}
-use Rattle.std.proofs.lemmas.List.{take_more, length-map, get_or-map, length-set}
+use Rattle.std.proofs.lemmas.List.{take_more, take_all, length-map, get_or-map, length-set}
 use Rattle.refusal.specs.declared.Refusal.{Refusal}
 use Rattle.refusal.specs.Refusals.{darkened}
 use Rattle.disk.specs.Runs.{Write, stored, Inside}
@@ -44,6 +44,9 @@ never_idle {m} {n} {e} p x en o i h =
     let l : n < m.shape.cells = subst (λ y. n < y) x.durable.count (subst (λ y. y < length m.durable) (sym en) (cell_within m.shape.size m.durable p h)) in
     let z : ◌≡◌ {A = Result Unit Refusal} (Err e) (Ok tt) = get_granted m n (Err e) (get_free_idle m n i l) o in
     absurd cc
+
+pub refused_buffer : (r : Result Unit Refusal) (y : Refusal) (v before : List ℕ) → r ≡ Err y → Filled r v before before
+refused_buffer r y v before a = subst (λ (x : Result Unit Refusal). Filled x v before before) (sym a) refl
 
 -- the open group, by cells
 opened : {m a : Content} {ps : List (List ℕ)} {k : ℕ} (h : Begun m ps k a) → Group m h.cells k a
@@ -143,6 +146,20 @@ module _ {C : Type 0} (f : C → List ℕ) (ws : List (PlaceWrite C)) (i : ℕ) 
   next_inside h =
       let p : (get_or (listed f ws) i (w.place, f w.content)).0 < length s = inside_at (length s) (listed f ws) i (w.place, f w.content) h within in
       subst (λ n. w.place < n) (sym (length_stored (take i (listed f ws)) s)) (subst (λ (x : Write). x.0 < length s) item p)
+
+-- all writes are done
+pub stored_all : {C : Type 0} (f : C → List ℕ) (ws : List (PlaceWrite C)) (i : ℕ) (s : List (List ℕ)) → length ws ≤ i → stored (take i (listed f ws)) s ≡ stored (listed f ws) s
+stored_all f ws i s h = ap (λ x. stored x s) (take_all i (listed f ws) (omega (arith, length_listed f ws)))
+
+pub same_group : {m a : Content} {k : ℕ} {ps : List (List ℕ)} (qs : List (List ℕ)) → ps ≡ qs → Begun m ps k a → Begun m qs k a
+same_group qs e h = record { cells = h.cells; stage = h.stage; shape = h.shape; durable = h.durable; places = h.places ∙ e }
+
+pub whole_group : {m a : Content} {k : ℕ} {ps : List (List ℕ)} (qs : List (List ℕ)) (n : ℕ) → ps ≡ qs → k ≡ n → Begun m ps k a → Begun m qs n a
+whole_group {m} {a} qs n e f h = subst (λ k. Begun m qs k a) f (same_group qs e h)
+
+-- a refusal relayed
+pub relayed : {m a : Content} {e : Refusal} (ps : List (List ℕ)) (k : ℕ) (r : Result Unit Refusal) (y : Refusal) → r ≡ Err y → y ≡ e → (e ≡ darkened) × Dimmed (shown m) m a → Tried m ps k r a
+relayed {m} {a} {e} ps k r y p q t = subst (λ (x : Result Unit Refusal). Tried m ps k x a) (sym (p ∙ ap Err q)) t
 
 -- how a whole group ends
 pub begin_fails : {m a : Content} {e : Refusal} {ps : List (List ℕ)} → m.stage ≡ idle → Refused call.begin m e a → (e ≡ darkened) × (Dimmed (shown m) m a ⊎ Dimmed ps m a)

@@ -6,7 +6,7 @@ use Rattle.std.specs.Simd.{first_chunks}
 use Rattle.std.proofs.lemmas.Nat.{from_le_bytes-to_le_bytes_4, le_bytes_4}
 use Rattle.std.proofs.lemmas.List.{get_or-map}
 use Rattle.std.proofs.ByRecursion.{All-append}
-use Rattle.tally.specs.CounterBytes.{counter_bytes, counters_bytes, counter_of, reading_counters, with_counter, CountersReadBack, BytesReadBack, OneCounterChanges, ItsBytesChangeOne, CountersFit, ReadInParts, PlacesAreGood, CounterLaws}
+use Rattle.tally.specs.CounterBytes.{counter_bytes, counters_bytes, counter_of, counter_from, reading_counters, with_counter, CountersReadBack, BytesReadBack, OneCounterChanges, ItsBytesChangeOne, CountersFit, ReadInParts, PlacesAreGood, CounterLaws}
 
 -- one counter and its four bytes
 pub counter_back : (n : ℕ) → n < 2 ^ 32 → counter_of (n % 256) (n / 256 % 256) (n / 65536 % 256) (n / 16777216 % 256) ≡ n
@@ -26,6 +26,16 @@ counter_fits : (a b c d : ℕ) → a < 256 → b < 256 → c < 256 → d < 256 �
 counter_fits a b c d p q r s = omega arith
 
 -- four bytes on
+step_first : (i a b c d : ℕ) (bs : List ℕ) → get_or (a ∷ b ∷ c ∷ d ∷ bs) (4 * suc i) 0 ≡ get_or bs (4 * i) 0
+step_first i a b c d bs =
+    let e : 4 * suc i ≡ suc (suc (suc (suc (4 * i)))) = omega arith in
+    ap (λ j. get_or (a ∷ b ∷ c ∷ d ∷ bs) j 0) e
+
+step_at : (i k a b c d : ℕ) (bs : List ℕ) → get_or (a ∷ b ∷ c ∷ d ∷ bs) (4 * suc i + k) 0 ≡ get_or bs (4 * i + k) 0
+step_at i k a b c d bs =
+    let e : 4 * suc i + k ≡ suc (suc (suc (suc (4 * i + k)))) = omega arith in
+    ap (λ j. get_or (a ∷ b ∷ c ∷ d ∷ bs) j 0) e
+
 step_with : (i v a b c d : ℕ) (bs : List ℕ) → with_counter (suc i) v (a ∷ b ∷ c ∷ d ∷ bs) ≡ a ∷ b ∷ c ∷ d ∷ with_counter i v bs
 step_with i v a b c d bs =
     let e : 4 * suc i ≡ suc (suc (suc (suc (4 * i)))) = omega arith in
@@ -107,6 +117,22 @@ counter_laws = record {
   zeros_are_empty = refl;
   zeros_are_zeros = (refl, refl);
 }
+
+-- counter i is the one whose lowest byte is byte 4 * i
+pub counter_is : (bs : List ℕ) (i : ℕ) → 4 * i + 4 ≤ length bs → get_or (reading_counters bs) i 0 ≡ counter_from bs (4 * i)
+counter_is [] i h = absurd (omega arith)
+counter_is (a ∷ []) i h = absurd (omega arith)
+counter_is (a ∷ b ∷ []) i h = absurd (omega arith)
+counter_is (a ∷ b ∷ c ∷ []) i h = absurd (omega arith)
+counter_is (a ∷ b ∷ c ∷ d ∷ bs) zero h = refl
+counter_is (a ∷ b ∷ c ∷ d ∷ bs) (suc i) h =
+    let l : 4 * i + 4 ≤ length bs = omega arith in
+    let rest = counter_is bs i l in
+    let e₀ = step_first i a b c d bs in
+    let e₁ = step_at i 1 a b c d bs in
+    let e₂ = step_at i 2 a b c d bs in
+    let e₃ = step_at i 3 a b c d bs in
+    cc
 
 -- whole counters, read four bytes at a time
 pub chunks_read : (k : ℕ) (bs : List ℕ) → length bs ≡ 4 * k → map (from_le_bytes w32) (first_chunks 4 k bs) ≡ reading_counters bs

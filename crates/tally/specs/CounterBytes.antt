@@ -22,6 +22,10 @@ reading_counters (a ∷ b ∷ []) = []
 reading_counters (a ∷ b ∷ c ∷ []) = []
 reading_counters (a ∷ b ∷ c ∷ d ∷ bs) = counter_of a b c d ∷ reading_counters bs
 
+-- the counter whose lowest byte is byte p
+abbrev pub counter_from : List ℕ → ℕ → ℕ
+counter_from bs p = counter_of (slice_index bs p) (slice_index bs (p + 1)) (slice_index bs (p + 2)) (slice_index bs (p + 3))
+
 -- counter i of a place
 abbrev pub counter_at : ℕ → List ℕ → Option ℕ
 counter_at i bs = cond (nat_lt i 16) (Some (slice_index (reading_counters bs) i)) None
