@@ -34,6 +34,8 @@ fn show_charges<D: Trial>(rt: &HostRuntime, pages: u32, tally: &mut Tally) -> Re
     Ok(())
 }
 
+// A call of its own, so that the room for printing a fault is not held under it: the program then runs in 8 KiB of stack.
+#[inline(never)]
 fn show_disk<D: Trial>(rt: &HostRuntime, tally: &mut Tally) -> Result<(), Fault> {
     for pages in 1..=6 {
         show_charges::<D>(rt, pages, tally)?;
